@@ -1,0 +1,40 @@
+-- A queue as a chain through a table of n tasks: a link is a task's number, and -1 at the end. Assumes nothing.
+use mathlib.Core.Path.{_≡_}
+use mathlib.Core.Bool.{true, false}
+use mathlib.Core.List.{List, [], _∷_}
+use Prim.Native.Nat.{ℕ, zero, suc, _<_}
+use lib.IntN.{ℤ, pos, negsuc}
+use lib.Dec.{ltb}
+
+-- The link at the ends, -1.
+abbrev pub end : ℤ
+end = negsuc 0
+
+-- From the link `head` on, by the next links, stand the tasks of the list, and then comes the end.
+abbrev pub Forwards : ℕ → (ℕ → ℤ) → ℤ → List ℕ → Type 0
+Forwards n next head [] = head ≡ end
+Forwards n next head (x ∷ xs) = (x < n) × (head ≡ pos x) × Forwards n next (next x) xs
+
+-- The previous link of the first task of the list is `back`, and that of each other leads to the task before it.
+abbrev pub Backwards : (ℕ → ℤ) → ℤ → List ℕ → Type 0
+Backwards previous back [] = Unit {0}
+Backwards previous back (x ∷ xs) = (previous x ≡ back) × Backwards previous (pos x) xs
+
+-- The links from `head` on hold just the tasks of the list, in its order, and are mutual.
+pub record Chain (n : ℕ) (next previous : ℕ → ℤ) (head : ℤ) (xs : List ℕ) : Type 0 where
+  pub forwards : Forwards n next head xs
+  pub backwards : Backwards previous end xs
+
+-- The task that a link leads to, and n where it leads to none.
+abbrev pub target : ℕ → ℤ → ℕ
+target n (pos x) = x
+target n (negsuc m) = n
+
+-- The tasks met from the link `head` on, whatever the links are, and at most `most` of them.
+unfoldable pub walk : ℕ → (ℕ → ℤ) → ℕ → ℤ → List ℕ
+walk n next zero head = []
+walk n next (suc most) head =
+    elim (ltb (target n head) n) [
+      | true ↦ target n head ∷ walk n next most (next (target n head))
+      | false ↦ []
+    ]

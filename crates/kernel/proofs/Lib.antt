@@ -1,0 +1,6 @@
+-- Facts about the definitions, which need no code.
+pub mod Refusals
+pub mod Fresh
+pub mod Deadlines
+pub mod Shares
+pub mod Places

@@ -1,0 +1,98 @@
+-- Every call of document 01, with whatever numbers and bytes it is handed, and what it does where nothing refuses it. Assumes nothing.
+use mathlib.Core.List.{List, []}
+use Prim.Native.Nat.{ℕ}
+use lib.IntN.{ℤ, pos, _-ℤ_}
+use Rattle.kernel.specs.declared.Class.the-variants.{Nrt, Hard}
+use Rattle.kernel.specs.Status.{status-number}
+use Rattle.kernel.specs.Kernel.{Kernel, task, channel, period}
+use Rattle.kernel.specs.Tick.{tick as ticked}
+use Rattle.kernel.specs.Tasks as Tasks
+use Rattle.kernel.specs.Semaphores as Semaphores
+use Rattle.kernel.specs.Channels as Channels
+use Rattle.kernel.specs.Channels.{place, buffer, own}
+
+-- A call is made by the running task, or is a clock tick.
+pub data Call : Type 0 where
+  tick : Call
+  create-hard : (period cost : ℕ) → Call
+  create-nrt : (priority : ℕ) → Call
+  activate : (task : ℕ) → Call
+  sleep : Call
+  cycle : Call
+  end : Call
+  kill : (task : ℕ) → Call
+  new-semaphore : (count : ℕ) → Call
+  delete : (semaphore : ℕ) → Call
+  wait : (semaphore : ℕ) → Call
+  signal : (semaphore : ℕ) → Call
+  clock : Call
+  status : (task : ℕ) → Call
+  deadline : (task : ℕ) → Call
+  period-of : (task : ℕ) → Call
+  slack : (task : ℕ) → Call
+  open-channel : (size buffers : ℕ) → Call
+  begin-write : (channel : ℕ) → Call
+  piece : (channel offset : ℕ) → List ℕ → Call
+  put : (channel : ℕ) → Call
+  begin-reading : (channel : ℕ) → Call
+  showing : (channel : ℕ) → Call
+  close : (channel : ℕ) → Call
+  screen : (channel : ℕ) → (standby : List ℕ) → Call
+
+-- What a call hands back beside its answer: nothing, so many bytes of the message memory from a place on, or the stand-by text itself.
+pub data Shown : Type 0 where
+  nothing : Shown
+  part : (place size : ℕ) → Shown
+  standby : Shown
+
+-- What a call does where nothing refuses it: the number of its answer, what it hands back beside it (and where it is refused, that
+-- instead), and the kernel and the message memory as they are then.
+pub record Deed : Type 0 where
+  pub number : ℤ
+  pub shown : Shown
+  pub instead : Shown
+  pub kernel : Kernel
+  pub memory : List ℕ
+
+-- Success is 0, the new number (create, new semaphore, open) or what a question asks.
+abbrev pub done : Kernel → List ℕ → Deed
+done k m = record { number = pos 0; shown = nothing; instead = nothing; kernel = k; memory = m }
+
+abbrev pub made : ℕ → Kernel → List ℕ → Deed
+made n k m = record { number = pos n; shown = nothing; instead = nothing; kernel = k; memory = m }
+
+abbrev pub told : ℤ → Kernel → List ℕ → Deed
+told v k m = record { number = v; shown = nothing; instead = nothing; kernel = k; memory = m }
+
+-- A showing hands back the message that the running task's reading holds, as a part of the message memory, uncopied.
+abbrev pub showed : ℕ → Shown → Kernel → List ℕ → Deed
+showed c other k m =
+    record { number = pos 0; shown = part (place c (buffer (own k c))) (channel k c .size); instead = other; kernel = k; memory = m }
+
+-- What each call does and answers.
+unfoldable pub legal : Call → Kernel → List ℕ → Deed
+legal tick k m = done (ticked k) m
+legal (create-hard p c) k m = made (Tasks.lowest-free k) (Tasks.create (Hard p c) k) m
+legal (create-nrt p) k m = made (Tasks.lowest-free k) (Tasks.create (Nrt p) k) m
+legal (activate n) k m = done (Tasks.activate n k) m
+legal sleep k m = done (Tasks.sleep k) m
+legal cycle k m = done (Tasks.cycle k) m
+legal end k m = done (Tasks.end k) m
+legal (kill n) k m = done (Tasks.kill n k) m
+legal (new-semaphore n) k m = made (Semaphores.lowest-semaphore k) (Semaphores.new-semaphore n k) m
+legal (delete s) k m = done (Semaphores.delete s k) m
+legal (wait s) k m = done (Semaphores.wait s k) m
+legal (signal s) k m = done (Semaphores.signal s k) m
+legal clock k m = told (pos (k .clock)) k m
+legal (status n) k m = told (pos (status-number (task k n .status))) k m
+legal (deadline n) k m = told (pos (task k n .deadline)) k m
+legal (period-of n) k m = told (pos (period (task k n .class))) k m
+legal (slack n) k m = told (pos (task k n .deadline) -ℤ pos (k .clock)) k m
+legal (open-channel n b) k m = made (Channels.lowest-channel k) (Channels.open-channel n b k) m
+legal (begin-write c) k m = done (Channels.begin-write c k) (Channels.cleared c k m)
+legal (piece c a bs) k m = done k (Channels.written c a bs k m)
+legal (put c) k m = done (Channels.put c k) m
+legal (begin-reading c) k m = done (Channels.begin-reading c k) m
+legal (showing c) k m = showed c (part 0 0) k m
+legal (close c) k m = done (Channels.close c k) m
+legal (screen c text) k m = showed c standby k m

@@ -1,0 +1,211 @@
+// The state of one controller, with its sizes, its refusal numbers and its fresh kernel, and what a call gives back.
+ghost use mathlib.Core.Path.{_≡_};
+ghost use Rattle.kernel.specs.Fresh.{fresh-state};
+
+// Numbers of three kinds, which cannot be mixed. A caller may hand in any.
+pub struct TaskNo(pub usize);
+
+pub struct SemaphoreNo(pub usize);
+
+pub struct ChannelNo(pub usize);
+
+pub enum Class {
+    Nrt { priority: u8 },
+    Hard { period: u32, cost: u32 },
+}
+
+pub enum Status {
+    Free,
+    Sleep,
+    Exe,
+    Ready,
+    Idle,
+    Zombie,
+    Wait(SemaphoreNo),
+}
+
+// A task's record. Its links lead to its neighbours in its queue, and are -1 at the ends and outside every queue.
+pub struct Task {
+    pub class: Class,
+    pub status: Status,
+    pub deadline: u32,
+    pub next: i8,
+    pub previous: i8,
+}
+
+pub struct Semaphore {
+    pub used: bool,
+    pub count: u16,
+}
+
+// The buffer of the last message put.
+pub enum Latest {
+    Nothing,
+    Buffer(u8),
+}
+
+// Size 0 says that the channel is unused.
+pub struct Channel {
+    pub size: u16,
+    pub buffers: u8,
+    pub latest: Latest,
+}
+
+// A task's session on a channel, with its buffer.
+pub enum Session {
+    Closed,
+    Write(u8),
+    Reading(u8),
+}
+
+pub struct Slot {
+    pub session: Session,
+}
+
+pub enum Stop {
+    Going,
+    Overrun,
+    Lifetime,
+}
+
+// The heads are those of ready, idle, zombie and each semaphore's queue, in this order.
+// The session of task t on channel c is at TASKS * c + t.
+pub struct State {
+    pub clock: u32,
+    pub stop: Stop,
+    pub running: TaskNo,
+    pub share: u32,
+    pub tasks: [Task; State::TASKS],
+    pub heads: [i8; State::QUEUES],
+    pub semaphores: [Semaphore; State::SEMAPHORES],
+    pub channels: [Channel; State::CHANNELS],
+    pub sessions: [Slot; State::SESSIONS],
+}
+
+// Slack -3 is Done(-3), refusal -3 is Refused(-3).
+pub enum Answer {
+    Done(i64),
+    Refused(i64),
+}
+
+// What a call gives back: the next state, the answer and the running task.
+pub struct Reply {
+    pub state: State,
+    pub answer: Answer,
+    pub running: TaskNo,
+}
+
+// Sizes.
+impl State {
+    pub const TASKS: usize = 32;
+
+    pub const SEMAPHORES: usize = 32;
+
+    pub const CHANNELS: usize = 4;
+
+    pub const QUEUES: usize = 3 + State::SEMAPHORES;
+
+    pub const SESSIONS: usize = State::TASKS * State::CHANNELS;
+
+    pub const LONGEST_PERIOD: u32 = 72000;
+
+    pub const LAST_PRIORITY: u8 = 254;
+
+    pub const MAIN_PRIORITY: u8 = 255;
+
+    pub const HIGHEST_COUNT: u16 = 65535;
+
+    pub const LONGEST_MESSAGE: usize = 512;
+
+    pub const FEWEST_BUFFERS: usize = 2;
+
+    pub const MOST_BUFFERS: usize = 8;
+
+    pub const MEMORY_SIZE: usize = 16384;
+
+    pub const NRT_DEADLINE: u32 = 2147483392;
+
+    pub const LIFETIME: u32 = 2147411392;
+
+    pub const WHOLE: u32 = 1000000;
+}
+
+// Refusal numbers.
+impl State {
+    pub const TIME_OVERFLOW: i64 = -1;
+
+    pub const TIME_EXPIRED: i64 = -2;
+
+    pub const NO_GUARANTEE: i64 = -3;
+
+    pub const NO_TASK: i64 = -4;
+
+    pub const NO_SEMAPHORE: i64 = -5;
+
+    pub const NO_SUCH_NUMBER: i64 = -6;
+
+    pub const OUTSIDE_SIZES: i64 = -7;
+
+    pub const NOT_ALLOWED: i64 = -8;
+
+    pub const WRONG_STATUS: i64 = -9;
+
+    pub const NO_ROOM: i64 = -10;
+
+    pub const NOT_SOUND: i64 = -11;
+
+    pub const WRONG_MEMORY: i64 = -12;
+
+    pub const NOTHING_PUT: i64 = -13;
+
+    pub const WRONG_SESSION: i64 = -14;
+}
+
+impl State {
+    // The fresh kernel.
+    pub fn fresh() -> State
+        ensures { λ r. ⌜ r ≡ fresh-state ⌝ }
+    {
+        let free = Task {
+            class: Class::Nrt { priority: 0 },
+            status: Status::Free,
+            deadline: 0,
+            next: -1,
+            previous: -1,
+        };
+        let main = Task {
+            class: Class::Nrt {
+                priority: State::MAIN_PRIORITY,
+            },
+            status: Status::Exe,
+            deadline: State::NRT_DEADLINE + State::MAIN_PRIORITY as u32,
+            next: -1,
+            previous: -1,
+        };
+        let mut tasks = [free; State::TASKS];
+        tasks[0] = main;
+        let unused = Semaphore {
+            used: false,
+            count: 0,
+        };
+        let channel = Channel {
+            size: 0,
+            buffers: 0,
+            latest: Latest::Nothing,
+        };
+        let slot = Slot {
+            session: Session::Closed,
+        };
+        State {
+            clock: 0,
+            stop: Stop::Going,
+            running: TaskNo(0),
+            share: 0,
+            tasks: tasks,
+            heads: [-1i8; State::QUEUES],
+            semaphores: [unused; State::SEMAPHORES],
+            channels: [channel; State::CHANNELS],
+            sessions: [slot; State::SESSIONS],
+        }
+    }
+}
