@@ -1,11 +1,10 @@
 -- The fresh kernel is good, and the fresh state is sound. Assumes nothing.
 use mathlib.Core.Path.{_≡_, refl, ap, sym, _∙_}
-use mathlib.Core.Logic.{inl}
+use mathlib.Core.Logic.{inl, inr}
 use mathlib.Core.Bool.{true, false, false≢true}
 use mathlib.Core.List.{List, [], _∷_}
 use Prim.Native.Nat.{ℕ, zero, suc, _*_, _≤_, _<_}
 use native.Mathlib.Omega.{arith}
-use borrow.Author.Tests.{eq-eqb}
 use lib.ListN.{length, getD, replicate, getD-replicate}
 use Rattle.chain.specs.Chain.{Chain, end, walk}
 use Rattle.chain.specs.Lists.{Among}
@@ -18,8 +17,7 @@ use Rattle.kernel.specs.declared.Slot.{Slot}
 use Rattle.kernel.specs.Sizes.{task-count, semaphore-count, channel-count}
 use Rattle.kernel.specs.Status.{queue-of, queue-count}
 use Rattle.kernel.specs.Kernel.{Bare, Kernel, blank, task, queue, semaphore, channel, session, unused-semaphore, unused-channel, slot, slot-number}
-use Rattle.kernel.specs.Channels.{holds}
-use Rattle.kernel.specs.Good.{Good, Sized, GoodTask, GoodQueue, GoodSemaphore, GoodChannel, Unused}
+use Rattle.kernel.specs.Good.{Good, Sized, GoodTask, GoodQueue, GoodSemaphore, GoodChannel, Opens}
 use Rattle.kernel.specs.Seen.{past, record-at, next-of, previous-of, head-of, queue-from, seen}
 use Rattle.kernel.specs.Sound.{Filed, Sound}
 use Rattle.kernel.specs.Fresh.{main, alone, fresh, fresh-state}
@@ -124,13 +122,11 @@ channel-good c =
       unused = λ e. record { buffers = rw no-channel refl; latest = rw no-channel refl; sessions = λ t h. no-session c t };
       used = λ h. absurd (let e = ap (λ (x : Channel). x .size) (no-channel c) in omega arith);
       latest = λ b e. absurd (no-put b e);
-      not-free = λ t b h e. absurd (no-hold t b e);
-      not-zombie = λ t b h e. absurd (no-hold t b e);
-      named = λ t b h e. absurd (no-hold t b e);
-      one-writer = λ t u b ht hu e. absurd (no-hold t b (ap (λ (z : Session). holds z b) e ∙ eq-eqb b b refl));
-      not-latest = λ t b h e. no-put b;
-      not-read = λ t u b ht hu e. absurd (no-hold t b (ap (λ (z : Session). holds z b) e ∙ eq-eqb b b refl));
-      put-first = λ t b h e. absurd (no-hold t b (ap (λ (z : Session). holds z b) e ∙ eq-eqb b b refl));
+      sessions = λ t b h e. absurd (no-open t b e);
+      one-writer = λ t u b ht hu e. absurd (no-open t b (inl e));
+      not-latest = λ t b h e. absurd (no-open t b (inl e));
+      not-read = λ t u b ht hu e. absurd (no-open t b (inl e));
+      put-first = λ t b h e. absurd (no-open t b (inr e));
     }
   where
     no-put : (b : ℕ) → channel fresh c .latest ≡ Buffer b → ⊥
@@ -139,8 +135,9 @@ channel-good c =
         let w : _≡_ {A = ℕ} 0 1 = cc in
         omega arith
 
-    no-hold : (t b : ℕ) → holds (session fresh c t) b ≡ true → ⊥
-    no-hold t b e = false≢true (rw (no-session c t) at e)
+    no-open : (t b : ℕ) → Opens (session fresh c t) b → ⊥
+    no-open t b (inl e) = let n = no-session c t in let w : _≡_ {A = ℕ} 0 1 = cc in omega arith
+    no-open t b (inr e) = let n = no-session c t in let w : _≡_ {A = ℕ} 0 1 = cc in omega arith
 
 pub fresh-good : Good fresh
 unfolding fresh

@@ -70,20 +70,33 @@ abbrev pub is-latest : Latest → ℕ → Bool
 is-latest Nothing b = false
 is-latest (Buffer x) b = eqb x b
 
--- A session reads buffer b, or is writing it.
-abbrev pub holds : Session → ℕ → Bool
-holds Closed b = false
-holds (Write x) b = eqb x b
-holds (Reading x) b = eqb x b
+-- A session that reads buffer b.
+abbrev pub reading : ℕ → Session → Bool
+reading b Closed = false
+reading b (Write x) = false
+reading b (Reading x) = eqb x b
 
--- One of the first n tasks has a session on channel c that holds buffer b.
-abbrev pub held : ℕ → Kernel → ℕ → ℕ → Bool
-held zero k c b = false
-held (suc t) k c b = holds (session k c t) b || held t k c b
+-- A session that is writing buffer b.
+abbrev pub writing : ℕ → Session → Bool
+writing b Closed = false
+writing b (Write x) = eqb x b
+writing b (Reading x) = false
 
--- The lowest buffer that is not latest, not read and not being written; the number of buffers where there is none.
+-- One of the first n tasks has such a session on channel c.
+abbrev pub some-session : (Session → Bool) → ℕ → Kernel → ℕ → Bool
+some-session p zero k c = false
+some-session p (suc t) k c = p (session k c t) || some-session p t k c
+
+-- Buffer b is not latest, not read and not being written.
+abbrev pub free-buffer : Kernel → ℕ → ℕ → Bool
+free-buffer k c b =
+    not (is-latest (channel k c .latest) b)
+    && not (some-session (reading b) task-count k c)
+    && not (some-session (writing b) task-count k c)
+
+-- The lowest such buffer; the number of buffers where there is none.
 unfoldable pub lowest-buffer : Kernel → ℕ → ℕ
-lowest-buffer k c = lowest (channel k c .buffers) (λ b. not (is-latest (channel k c .latest) b) && not (held task-count k c b))
+lowest-buffer k c = lowest (channel k c .buffers) (free-buffer k c)
 
 -- ---- the calls
 

@@ -11,11 +11,11 @@ use Rattle.kernel.specs.declared.Class.the-variants.{Nrt, Hard}
 use Rattle.kernel.specs.declared.Status.{Status}
 use Rattle.kernel.specs.declared.Status.the-variants.{Free, Sleep, Exe, Ready, Idle, Zombie, Wait}
 use Rattle.kernel.specs.declared.Latest.the-variants.{Nothing, Buffer}
+use Rattle.kernel.specs.declared.Session.{Session}
 use Rattle.kernel.specs.declared.Session.the-variants.{Closed, Write, Reading}
 use Rattle.kernel.specs.Sizes.{task-count, semaphore-count, channel-count, longest-period, last-priority, main-priority, highest-count, longest-message, fewest-buffers, most-buffers, nrt-deadline, lifetime, whole}
 use Rattle.kernel.specs.Status.{FREE, READY, EXE, IDLE, WAIT, ZOMBIE, status-number, queue-of, queue-count, ready, waiters, stop-number}
 use Rattle.kernel.specs.Kernel.{Bare, Kernel, task, queue, semaphore, channel, session, hard, share-of, is}
-use Rattle.kernel.specs.Channels.{holds}
 
 -- The tables have their sizes: a record for each task, a list for each queue, a session for each task on each channel.
 pub record Sized (k : Kernel) : Type 0 where
@@ -115,15 +115,22 @@ pub record Used (k : Kernel) (c : ℕ) : Type 0 where
   pub fewest : fewest-buffers ≤ channel k c .buffers
   pub most : channel k c .buffers ≤ most-buffers
 
+-- A session that is open and names buffer b.
+abbrev pub Opens : Session → ℕ → Type 0
+Opens z b = (z ≡ Write b) ⊎ (z ≡ Reading b)
+
+-- It belongs to a task neither FREE nor ZOMBIE and names a buffer of its channel.
+pub record GoodSession (k : Kernel) (c t b : ℕ) : Type 0 where
+  pub not-free : status-number (task k t .status) ≡ FREE → ⊥
+  pub not-zombie : status-number (task k t .status) ≡ ZOMBIE → ⊥
+  pub named : b < channel k c .buffers
+
 pub record GoodChannel (k : Kernel) (c : ℕ) : Type 0 where
   pub unused : channel k c .size ≡ 0 → Unused k c
   pub used : 0 < channel k c .size → Used k c
   -- its latest is one of its buffers or none
   pub latest : (b : ℕ) → channel k c .latest ≡ Buffer b → b < channel k c .buffers
-  -- each open session belongs to a task neither FREE nor ZOMBIE and names a buffer of that channel
-  pub not-free : (t b : ℕ) → t < task-count → holds (session k c t) b ≡ true → status-number (task k t .status) ≡ FREE → ⊥
-  pub not-zombie : (t b : ℕ) → t < task-count → holds (session k c t) b ≡ true → status-number (task k t .status) ≡ ZOMBIE → ⊥
-  pub named : (t b : ℕ) → t < task-count → holds (session k c t) b ≡ true → b < channel k c .buffers
+  pub sessions : (t b : ℕ) → t < task-count → Opens (session k c t) b → GoodSession k c t b
   -- no buffer has two writers
   pub one-writer : (t u b : ℕ) → t < task-count → u < task-count → session k c t ≡ Write b → session k c u ≡ Write b → t ≡ u
   -- a writer's buffer is neither latest nor read
