@@ -3,7 +3,7 @@ use mathlib.Core.Path.{_≡_, refl, ap, sym, _∙_}
 use mathlib.Core.Logic.{inl, inr}
 use mathlib.Core.Bool.{true, false, false≢true}
 use mathlib.Core.List.{List, [], _∷_}
-use Prim.Native.Nat.{ℕ, zero, suc, _*_, _≤_, _<_}
+use Prim.Native.Nat.{ℕ, zero, suc, _-_, _*_, _≤_, _<_}
 use native.Mathlib.Omega.{arith}
 use lib.ListN.{length, getD, replicate, getD-replicate}
 use Rattle.chain.specs.Chain.{Chain, end, walk}
@@ -66,7 +66,7 @@ blank-good x =
 
 others : (x : ℕ) → task fresh (suc x) ≡ blank
 unfolding fresh
-others x = everywhere 31 blank x
+others x = everywhere (task-count - 1) blank x
 
 task-good : (x : ℕ) → GoodTask fresh x (task fresh x)
 unfolding fresh
@@ -166,7 +166,7 @@ fresh-seen = refl
 alone-at : (x : ℕ) → x < task-count → record-at (fresh-state .tasks) x ≡ alone (task fresh x)
 unfolding fresh fresh-state
 alone-at zero h = refl
-alone-at (suc x) h = getD-replicate 31 x (alone blank) past (omega arith) ∙ ap alone (sym (others x))
+alone-at (suc x) h = getD-replicate (task-count - 1) x (alone blank) past (omega arith) ∙ ap alone (sym (others x))
 
 head-at : (q : ℕ) → q < queue-count → head-of (fresh-state .heads) q ≡ end
 unfolding fresh-state

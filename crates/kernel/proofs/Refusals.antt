@@ -3,8 +3,9 @@ use mathlib.Core.Path.{_≡_, refl}
 use mathlib.Core.Bool.{Bool, true, false, cond}
 use mathlib.Core.List.{List, [], _∷_}
 use lib.IntN.{ℤ}
+use Rattle.kernel.specs.Answer.{same-number}
 use Rattle.kernel.specs.Calls.{Call, tick, create-hard, create-nrt, activate, sleep, cycle, end, kill, new-semaphore, delete, wait, signal, clock, status, deadline, period-of, slack, open-channel, begin-write, piece, put, begin-reading, showing, close, screen}
-use Rattle.kernel.specs.Refusals.{Row, Handed, table, rows, same-number}
+use Rattle.kernel.specs.Refusals.{Row, Handed, table, rows}
 
 -- The rows' numbers are found in the list from left to right.
 abbrev pub follows : List ℤ → List Row → Bool

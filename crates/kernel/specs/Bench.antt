@@ -1,13 +1,13 @@
 -- The bench cases P1 to P12, each as a script with what every call of it must answer. Assumes nothing.
 use mathlib.Core.Path.{_≡_, refl}
-use mathlib.Core.Bool.{Bool, true, false, cond, _&&_}
+use mathlib.Core.Bool.{Bool, true, false, cond, not, _&&_}
 use mathlib.Core.List.{List, [], _∷_, _++_}
 use Prim.Native.Nat.{ℕ, zero, suc, _+_}
-use lib.IntN.{ℤ, pos, negsuc}
+use lib.IntN.{ℤ, pos}
 use lib.ListN.{take, drop, replicate}
 use lib.Dec.{eqb}
 use Rattle.kernel.specs.declared.Answer.{Answer}
-use Rattle.kernel.specs.declared.Answer.the-variants.{Done, Refused}
+use Rattle.kernel.specs.Answer.{number, is-refusal, same-number}
 use Rattle.kernel.specs.Sizes.{memory-size}
 use Rattle.kernel.specs.Kernel.{Kernel, share, lowest, with-clock}
 use Rattle.kernel.specs.Moves.{move, dispatch, preempt, schedule}
@@ -15,8 +15,8 @@ use Rattle.kernel.specs.Tick as Tick
 use Rattle.kernel.specs.Tasks as Tasks
 use Rattle.kernel.specs.Semaphores as Semaphores
 use Rattle.kernel.specs.Channels as Channels
-use Rattle.kernel.specs.Calls.{Call, tick, create-hard, create-nrt, activate, sleep, cycle, end, kill, new-semaphore, delete, wait, signal, clock, status, deadline, open-channel, begin-write, piece, put, begin-reading, showing, close, Shown, nothing, part, standby, legal}
-use Rattle.kernel.specs.Refusals.{Handed, same-number, -1, -2, -3, -4, -7, -10}
+use Rattle.kernel.specs.Calls.{Call, tick, create-hard, create-nrt, activate, sleep, cycle, end, kill, new-semaphore, delete, wait, signal, clock, status, deadline, open-channel, begin-write, piece, put, begin-reading, showing, close, Shown, nothing, part, standby, effect}
+use Rattle.kernel.specs.Refusals.{Handed, -1, -2, -3, -4, -7, -10}
 use Rattle.kernel.specs.Step.{Outcome, step}
 use Rattle.kernel.specs.Fresh.{fresh}
 
@@ -50,12 +50,6 @@ call (c gives n runs x) = c
 call (c refused n) = c
 call (c shows bs) = c
 
-abbrev same-answer : Answer → Answer → Bool
-same-answer (Done a) (Done b) = same-number a b
-same-answer (Done a) (Refused b) = false
-same-answer (Refused a) (Done b) = false
-same-answer (Refused a) (Refused b) = same-number a b
-
 abbrev same-bytes : List ℕ → List ℕ → Bool
 same-bytes [] [] = true
 same-bytes [] (y ∷ ys) = false
@@ -67,10 +61,13 @@ bytes nothing m = []
 bytes (part a n) m = take n (drop a m)
 bytes standby m = []
 
+abbrev done-with : Answer → ℕ → Bool
+done-with a n = not (is-refusal a) && same-number (number a) (pos n)
+
 abbrev meets : Line → Outcome → Bool
-meets (c gives n runs x) o = same-answer (o .answer) (Done (pos n)) && eqb (o .kernel .running) x
-meets (c refused n) o = same-answer (o .answer) (Refused n)
-meets (c shows bs) o = same-answer (o .answer) (Done (pos 0)) && same-bytes (bytes (o .shown) (o .memory)) bs
+meets (c gives n runs x) o = done-with (o .answer) n && eqb (o .kernel .running) x
+meets (c refused n) o = is-refusal (o .answer) && same-number (number (o .answer)) n
+meets (c shows bs) o = done-with (o .answer) 0 && same-bytes (bytes (o .shown) (o .memory)) bs
 
 abbrev handed : Kernel → List ℕ → Handed
 handed k m = record { sound = true; kernel = k; memory = m }
@@ -258,5 +255,5 @@ cases = p1 ∷ p2-taken ∷ p2-refused ∷ p3 ∷ p4 ∷ p5 ∷ p6 ∷ p7 ∷ p8
 
 -- Every case holds.
 pub bench : failed cases ≡ []
-unfolding failed cases p1 p2-taken p2-refused p3 p4 p5 p6 p7 p8 p9 p9-ahead p10 before-showing showings p11 p11-written p12 lent fresh step legal share lowest move dispatch preempt schedule Tick.free Tick.wake Tick.free-zombies Tick.wake-idle Tick.tick Tasks.lowest-free Tasks.create Tasks.activate Tasks.sleep Tasks.cycle Tasks.finish Tasks.end Tasks.kill Semaphores.lowest-semaphore Semaphores.new-semaphore Semaphores.wait Semaphores.signal Channels.lowest-buffer Channels.lowest-channel Channels.open-channel Channels.begin-write Channels.cleared Channels.written Channels.put Channels.begin-reading
+unfolding failed cases p1 p2-taken p2-refused p3 p4 p5 p6 p7 p8 p9 p9-ahead p10 before-showing showings p11 p11-written p12 lent fresh step effect share lowest move dispatch preempt schedule Tick.free Tick.wake Tick.free-zombies Tick.wake-idle Tick.tick Tasks.lowest-free Tasks.create Tasks.activate Tasks.sleep Tasks.cycle Tasks.close-sessions Tasks.finish Tasks.end Tasks.kill Semaphores.lowest-semaphore Semaphores.new-semaphore Semaphores.wait Semaphores.signal Channels.some-session Channels.lowest-buffer Channels.lowest-channel Channels.open-channel Channels.begin-write Channels.cleared Channels.written Channels.put Channels.begin-reading
 bench = refl

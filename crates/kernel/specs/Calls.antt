@@ -47,7 +47,7 @@ pub data Shown : Type 0 where
 
 -- What a call does where nothing refuses it: the number of its answer, what it hands back beside it (and where it is refused, that
 -- instead), and the kernel and the message memory as they are then.
-pub record Deed : Type 0 where
+pub record Effect : Type 0 where
   pub number : ℤ
   pub shown : Shown
   pub instead : Shown
@@ -55,44 +55,44 @@ pub record Deed : Type 0 where
   pub memory : List ℕ
 
 -- Success is 0, the new number (create, new semaphore, open) or what a question asks.
-abbrev pub done : Kernel → List ℕ → Deed
+abbrev pub done : Kernel → List ℕ → Effect
 done k m = record { number = pos 0; shown = nothing; instead = nothing; kernel = k; memory = m }
 
-abbrev pub made : ℕ → Kernel → List ℕ → Deed
+abbrev pub made : ℕ → Kernel → List ℕ → Effect
 made n k m = record { number = pos n; shown = nothing; instead = nothing; kernel = k; memory = m }
 
-abbrev pub told : ℤ → Kernel → List ℕ → Deed
+abbrev pub told : ℤ → Kernel → List ℕ → Effect
 told v k m = record { number = v; shown = nothing; instead = nothing; kernel = k; memory = m }
 
 -- A showing hands back the message that the running task's reading holds, as a part of the message memory, uncopied.
-abbrev pub showed : ℕ → Shown → Kernel → List ℕ → Deed
+abbrev pub showed : ℕ → Shown → Kernel → List ℕ → Effect
 showed c other k m =
     record { number = pos 0; shown = part (place c (buffer (own k c))) (channel k c .size); instead = other; kernel = k; memory = m }
 
 -- What each call does and answers.
-unfoldable pub legal : Call → Kernel → List ℕ → Deed
-legal tick k m = done (ticked k) m
-legal (create-hard p c) k m = made (Tasks.lowest-free k) (Tasks.create (Hard p c) k) m
-legal (create-nrt p) k m = made (Tasks.lowest-free k) (Tasks.create (Nrt p) k) m
-legal (activate n) k m = done (Tasks.activate n k) m
-legal sleep k m = done (Tasks.sleep k) m
-legal cycle k m = done (Tasks.cycle k) m
-legal end k m = done (Tasks.end k) m
-legal (kill n) k m = done (Tasks.kill n k) m
-legal (new-semaphore n) k m = made (Semaphores.lowest-semaphore k) (Semaphores.new-semaphore n k) m
-legal (delete s) k m = done (Semaphores.delete s k) m
-legal (wait s) k m = done (Semaphores.wait s k) m
-legal (signal s) k m = done (Semaphores.signal s k) m
-legal clock k m = told (pos (k .clock)) k m
-legal (status n) k m = told (pos (status-number (task k n .status))) k m
-legal (deadline n) k m = told (pos (task k n .deadline)) k m
-legal (period-of n) k m = told (pos (period (task k n .class))) k m
-legal (slack n) k m = told (pos (task k n .deadline) -ℤ pos (k .clock)) k m
-legal (open-channel n b) k m = made (Channels.lowest-channel k) (Channels.open-channel n b k) m
-legal (begin-write c) k m = done (Channels.begin-write c k) (Channels.cleared c k m)
-legal (piece c a bs) k m = done k (Channels.written c a bs k m)
-legal (put c) k m = done (Channels.put c k) m
-legal (begin-reading c) k m = done (Channels.begin-reading c k) m
-legal (showing c) k m = showed c (part 0 0) k m
-legal (close c) k m = done (Channels.close c k) m
-legal (screen c text) k m = showed c standby k m
+unfoldable pub effect : Call → Kernel → List ℕ → Effect
+effect tick k m = done (ticked k) m
+effect (create-hard p c) k m = made (Tasks.lowest-free k) (Tasks.create (Hard p c) k) m
+effect (create-nrt p) k m = made (Tasks.lowest-free k) (Tasks.create (Nrt p) k) m
+effect (activate n) k m = done (Tasks.activate n k) m
+effect sleep k m = done (Tasks.sleep k) m
+effect cycle k m = done (Tasks.cycle k) m
+effect end k m = done (Tasks.end k) m
+effect (kill n) k m = done (Tasks.kill n k) m
+effect (new-semaphore n) k m = made (Semaphores.lowest-semaphore k) (Semaphores.new-semaphore n k) m
+effect (delete s) k m = done (Semaphores.delete s k) m
+effect (wait s) k m = done (Semaphores.wait s k) m
+effect (signal s) k m = done (Semaphores.signal s k) m
+effect clock k m = told (pos (k .clock)) k m
+effect (status n) k m = told (pos (status-number (task k n .status))) k m
+effect (deadline n) k m = told (pos (task k n .deadline)) k m
+effect (period-of n) k m = told (pos (period (task k n .class))) k m
+effect (slack n) k m = told (pos (task k n .deadline) -ℤ pos (k .clock)) k m
+effect (open-channel n b) k m = made (Channels.lowest-channel k) (Channels.open-channel n b k) m
+effect (begin-write c) k m = done (Channels.begin-write c k) (Channels.cleared c k m)
+effect (piece c a bs) k m = done k (Channels.written c a bs k m)
+effect (put c) k m = done (Channels.put c k) m
+effect (begin-reading c) k m = done (Channels.begin-reading c k) m
+effect (showing c) k m = showed c (part 0 0) k m
+effect (close c) k m = done (Channels.close c k) m
+effect (screen c text) k m = showed c standby k m

@@ -83,7 +83,7 @@ writing b (Write x) = eqb x b
 writing b (Reading x) = false
 
 -- One of the first n tasks has such a session on channel c.
-abbrev pub some-session : (Session → Bool) → ℕ → Kernel → ℕ → Bool
+unfoldable pub some-session : (Session → Bool) → ℕ → Kernel → ℕ → Bool
 some-session p zero k c = false
 some-session p (suc t) k c = p (session k c t) || some-session p t k c
 

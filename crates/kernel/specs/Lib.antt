@@ -1,6 +1,7 @@
 -- The kernel of document 01. Read in this order.
 pub mod Sizes
 pub mod Status
+pub mod Answer
 pub mod Kernel
 pub mod Moves
 pub mod Tick

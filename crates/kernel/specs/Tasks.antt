@@ -58,7 +58,7 @@ ended a (Hard p c) = with-status a Zombie
 ended a (Nrt p) = blank
 
 -- The sessions of task t are closed, on each of so many channels.
-abbrev pub close-sessions : ℕ → ℕ → List Slot → List Slot
+unfoldable pub close-sessions : ℕ → ℕ → List Slot → List Slot
 close-sessions zero t zs = zs
 close-sessions (suc c) t zs = set (close-sessions c t zs) (slot-number c t) (slot Closed)
 
