@@ -2,23 +2,23 @@
 use mathlib.Core.Path.{_≡_, refl}
 use mathlib.Core.Bool.{Bool, true, false, cond, not, _&&_}
 use mathlib.Core.List.{List, [], _∷_, _++_}
-use Prim.Native.Nat.{ℕ, zero, suc, _+_}
+use Prim.Native.Nat.{ℕ, zero, suc}
 use lib.IntN.{ℤ, pos}
 use lib.ListN.{take, drop, replicate}
 use lib.Dec.{eqb}
 use Rattle.kernel.specs.declared.Answer.{Answer}
 use Rattle.kernel.specs.Answer.{number, is-refusal, same-number}
 use Rattle.kernel.specs.Sizes.{memory-size}
-use Rattle.kernel.specs.Kernel.{Kernel, share, lowest, with-clock}
+use Rattle.kernel.specs.Kernel.{Kernel, share, lowest}
 use Rattle.kernel.specs.Moves.{move, dispatch, preempt, schedule}
 use Rattle.kernel.specs.Tick as Tick
 use Rattle.kernel.specs.Tasks as Tasks
 use Rattle.kernel.specs.Semaphores as Semaphores
 use Rattle.kernel.specs.Channels as Channels
-use Rattle.kernel.specs.Calls.{Call, tick, create-hard, create-nrt, activate, sleep, cycle, end, kill, new-semaphore, delete, wait, signal, clock, status, deadline, open-channel, begin-write, piece, put, begin-reading, showing, close, Shown, nothing, part, standby, effect}
+use Rattle.kernel.specs.Calls.{Call, tick, create-hard, create-nrt, activate, sleep, cycle, end, kill, new-semaphore, wait, signal, clock, status, deadline, open-channel, begin-write, piece, put, begin-reading, showing, Shown, nothing, part, standby, effect}
 use Rattle.kernel.specs.Refusals.{Handed, -1, -2, -3, -4, -7, -10}
 use Rattle.kernel.specs.Step.{Outcome, step}
-use Rattle.kernel.specs.Fresh.{fresh}
+use Rattle.kernel.specs.Fresh.{fresh, fresh-at}
 
 infix 80 _gives_runs_
 infix 80 _refused_
@@ -158,10 +158,10 @@ p7 =
     ∷ deadline 1 gives 8 runs 1
     ∷ []))
 
--- P8 a tick at 2,147,411,391 stops with -2. The kernel is fresh but for its clock, which stands a tick before.
+-- P8 a tick at 2,147,411,391 stops with -2. The kernel is fresh but for its clock, which stands a tick before; it is good (`fresh-at-good`).
 p8 : Case
 p8 =
-    P 8 (with-clock fresh 2147411390)
+    P 8 (fresh-at 2147411390)
     (tick gives 0 runs 0
     ∷ clock gives 2147411391 runs 0
     ∷ tick gives 0 runs 0

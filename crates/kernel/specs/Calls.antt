@@ -1,5 +1,5 @@
 -- Every call of document 01, with whatever numbers and bytes it is handed, and what it does where nothing refuses it. Assumes nothing.
-use mathlib.Core.List.{List, []}
+use mathlib.Core.List.{List}
 use Prim.Native.Nat.{ℕ}
 use lib.IntN.{ℤ, pos, _-ℤ_}
 use Rattle.kernel.specs.declared.Class.the-variants.{Nrt, Hard}
@@ -54,15 +54,15 @@ pub record Effect : Type 0 where
   pub kernel : Kernel
   pub memory : List ℕ
 
--- Success is 0, the new number (create, new semaphore, open) or what a question asks.
-abbrev pub done : Kernel → List ℕ → Effect
-done k m = record { number = pos 0; shown = nothing; instead = nothing; kernel = k; memory = m }
-
-abbrev pub made : ℕ → Kernel → List ℕ → Effect
-made n k m = record { number = pos n; shown = nothing; instead = nothing; kernel = k; memory = m }
-
+-- Success is what a question asks, the new number (create, new semaphore, open) or 0.
 abbrev pub told : ℤ → Kernel → List ℕ → Effect
 told v k m = record { number = v; shown = nothing; instead = nothing; kernel = k; memory = m }
+
+abbrev pub made : ℕ → Kernel → List ℕ → Effect
+made n k m = told (pos n) k m
+
+abbrev pub done : Kernel → List ℕ → Effect
+done k m = told (pos 0) k m
 
 -- A showing hands back the message that the running task's reading holds, as a part of the message memory, uncopied.
 abbrev pub showed : ℕ → Shown → Kernel → List ℕ → Effect

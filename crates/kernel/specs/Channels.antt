@@ -1,10 +1,9 @@
 -- **Channels**: which buffer a session holds, where it lies in the message memory, and what each call does. Assumes nothing.
-use mathlib.Core.Bool.{Bool, true, false, cond, not, _&&_, _||_}
-use mathlib.Core.List.{List, [], _∷_, _++_}
+use mathlib.Core.Bool.{Bool, true, false, not, _&&_, _||_}
+use mathlib.Core.List.{List, _++_}
 use Prim.Native.Nat.{ℕ, zero, suc, _+_, _*_}
 use lib.ListN.{length, take, drop, set, replicate}
 use lib.Dec.{eqb}
-use Rattle.kernel.specs.declared.Channel.{Channel}
 use Rattle.kernel.specs.declared.Latest.{Latest}
 use Rattle.kernel.specs.declared.Latest.the-variants.{Nothing, Buffer}
 use Rattle.kernel.specs.declared.Session.{Session}
@@ -100,7 +99,7 @@ lowest-buffer k c = lowest (channel k c .buffers) (free-buffer k c)
 
 -- ---- the calls
 
--- The lowest unused channel, 4 where there is none.
+-- The lowest unused channel; the number of channels where there is none.
 unfoldable pub lowest-channel : Kernel → ℕ
 lowest-channel k = lowest channel-count (λ c. eqb (channel k c .size) 0)
 

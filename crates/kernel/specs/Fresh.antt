@@ -1,17 +1,17 @@
 -- The fresh kernel: clock 0, no stop, task 0 EXE, the rest FREE or unused, share total 0. Assumes nothing.
-use mathlib.Core.List.{List, [], _∷_}
+use mathlib.Core.List.{[], _∷_}
 use Prim.Native.Nat.{ℕ, _-_, _*_}
 use lib.ListN.{replicate}
 use Rattle.chain.specs.Chain as Chain
 use Rattle.kernel.specs.declared.Class.the-variants.{Nrt}
-use Rattle.kernel.specs.declared.Status.the-variants.{Free, Exe}
+use Rattle.kernel.specs.declared.Status.the-variants.{Exe}
 use Rattle.kernel.specs.declared.Stop.the-variants.{Going}
 use Rattle.kernel.specs.declared.Session.the-variants.{Closed}
 use Rattle.kernel.specs.declared.Task.{Task}
 use Rattle.kernel.specs.declared.State.{State}
 use Rattle.kernel.specs.Sizes.{task-count, semaphore-count, channel-count, main-priority, nrt-deadline}
 use Rattle.kernel.specs.Status.{queue-count}
-use Rattle.kernel.specs.Kernel.{Bare, Kernel, blank, unused-semaphore, unused-channel, slot}
+use Rattle.kernel.specs.Kernel.{Bare, Kernel, blank, unused-semaphore, unused-channel, slot, with-clock}
 
 -- The main task, which runs.
 abbrev pub main : Bare
@@ -30,6 +30,10 @@ fresh =
       channels = replicate channel-count unused-channel;
       sessions = replicate (task-count * channel-count) (slot Closed);
     }
+
+-- A kernel that is fresh but for its clock.
+abbrev pub fresh-at : ℕ → Kernel
+fresh-at n = with-clock fresh n
 
 -- A record of the state that stands in no queue.
 abbrev pub alone : Bare → Task

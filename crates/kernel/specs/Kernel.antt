@@ -1,6 +1,6 @@
 -- The kernel as a reader thinks of it: the tasks' records without links, and each queue as a list of task numbers. Assumes nothing.
-use mathlib.Core.Bool.{Bool, true, false, cond}
-use mathlib.Core.List.{List, [], _∷_}
+use mathlib.Core.Bool.{Bool, true, false}
+use mathlib.Core.List.{List, []}
 use Prim.Native.Nat.{ℕ, suc, zero, _+_, _-_, _*_, _/_}
 use lib.ListN.{getD, set}
 use lib.Dec.{eqb}

@@ -1,7 +1,6 @@
 -- A sound state: what its links must satisfy, and what the kernel seen in it must. Assumes nothing.
 use mathlib.Core.Path.{_≡_}
 use Prim.Native.Nat.{ℕ, _≤_, _<_}
-use lib.ListN.{length}
 use Rattle.chain.specs.Chain.{Chain, end}
 use Rattle.kernel.specs.declared.State.{State}
 use Rattle.kernel.specs.Sizes.{task-count}

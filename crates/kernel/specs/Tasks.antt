@@ -14,7 +14,7 @@ use Rattle.kernel.specs.Status.{FREE}
 use Rattle.kernel.specs.Kernel.{Bare, Kernel, task, blank, is, lowest, period, share-of, slot, slot-number, with-status, with-deadline, with-share, with-sessions}
 use Rattle.kernel.specs.Moves.{move, dispatch, schedule}
 
--- The lowest FREE record, 32 where there is none.
+-- The lowest FREE record; the number of tasks where there is none.
 unfoldable pub lowest-free : Kernel → ℕ
 lowest-free k = lowest task-count (λ x. is FREE (task k x))
 
@@ -35,7 +35,7 @@ abbrev pub release : Class → ℕ → ℕ → ℕ
 release (Hard p c) clock d = clock + p
 release (Nrt p) clock d = d
 
--- **Activate**: the deadline as above; insert in ready; schedule.
+-- **Activate** a SLEEP task: its deadline as above; insert in ready; schedule.
 unfoldable pub activate : ℕ → Kernel → Kernel
 activate n k =
     let a = task k n in
@@ -66,7 +66,7 @@ close-sessions (suc c) t zs = set (close-sessions c t zs) (slot-number c t) (slo
 unfoldable pub finish : ℕ → Kernel → Kernel
 finish n k = with-sessions (move k n (ended (task k n) (task k n .class))) (close-sessions channel-count n (k .sessions))
 
--- **End**: if it was running, dispatch.
+-- **End** of the running task: then dispatch.
 unfoldable pub end : Kernel → Kernel
 end k = dispatch (finish (k .running) k)
 
