@@ -48,3 +48,11 @@ module _ (bytes n : ℕ) where
 -- At document 01's sizes.
 pub place-inside : (c b : ℕ) → c < channel-count → b < most-buffers → place c b + longest-message ≤ memory-size
 place-inside c b hc hb = start-inside longest-message most-buffers channel-count c b hc hb
+
+pub places-apart
+    : (c b d e : ℕ)
+    → b < most-buffers
+    → e < most-buffers
+    → ((c ≡ d) × (b ≡ e) → ⊥)
+    → (place c b + longest-message ≤ place d e) ⊎ (place d e + longest-message ≤ place c b)
+places-apart c b d e hb he differ = starts-apart longest-message most-buffers c b d e hb he differ

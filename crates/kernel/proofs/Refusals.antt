@@ -4,7 +4,7 @@ use mathlib.Core.Bool.{Bool, true, false, cond}
 use mathlib.Core.List.{List, [], _∷_}
 use lib.IntN.{ℤ}
 use Rattle.kernel.specs.Answer.{same-number}
-use Rattle.kernel.specs.Calls.{Call, tick, create-hard, create-nrt, activate, sleep, cycle, end, kill, new-semaphore, delete, wait, signal, clock, status, deadline, period-of, slack, open-channel, begin-write, piece, put, begin-reading, showing, close, screen}
+use Rattle.kernel.specs.Calls.{Call, tick, create-hard, create-nrt, activate, sleep, cycle, end, kill, new-semaphore, delete, wait, signal, clock, status, deadline, period, slack, open-channel, begin-write, piece, put, begin-reading, showing, close, screen}
 use Rattle.kernel.specs.Refusals.{Row, Handed, table, rows}
 
 -- The rows' numbers are found in the list from left to right.
@@ -30,7 +30,7 @@ in-order (signal s) h = refl
 in-order clock h = refl
 in-order (status n) h = refl
 in-order (deadline n) h = refl
-in-order (period-of n) h = refl
+in-order (period n) h = refl
 in-order (slack n) h = refl
 in-order (open-channel n b) h = refl
 in-order (begin-write c) h = refl
