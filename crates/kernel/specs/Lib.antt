@@ -16,3 +16,4 @@ pub mod Good
 pub mod Sound
 pub mod Fresh
 pub mod Bench
+pub mod Script
