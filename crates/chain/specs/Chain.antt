@@ -10,20 +10,16 @@ use lib.Dec.{ltb}
 abbrev pub end : ℤ
 end = negsuc 0
 
--- From the link `head` on, by the next links, stand the tasks of the list, and then comes the end.
-abbrev pub Forwards : ℕ → (ℕ → ℤ) → ℤ → List ℕ → Type 0
-Forwards n next head [] = head ≡ end
-Forwards n next head (x ∷ xs) = (x < n) × (head ≡ pos x) × Forwards n next (next x) xs
-
--- The previous link of the first task of the list is `back`, and that of each other leads to the task before it.
-abbrev pub Backwards : (ℕ → ℤ) → ℤ → List ℕ → Type 0
-Backwards previous back [] = Unit {0}
-Backwards previous back (x ∷ xs) = (previous x ≡ back) × Backwards previous (pos x) xs
+-- From the link `head` on, by the next links, stand the tasks of the list, and then comes the link `tail`. The previous link of the
+-- first of them is `back`, and that of each other leads to the task before it.
+abbrev pub Stretch : ℕ → (ℕ → ℤ) → (ℕ → ℤ) → ℤ → ℤ → ℤ → List ℕ → Type 0
+Stretch n next previous tail back head [] = head ≡ tail
+Stretch n next previous tail back head (x ∷ xs) =
+    (x < n) × (head ≡ pos x) × (previous x ≡ back) × Stretch n next previous tail (pos x) (next x) xs
 
 -- The links from `head` on hold just the tasks of the list, in its order, and are mutual.
 pub record Chain (n : ℕ) (next previous : ℕ → ℤ) (head : ℤ) (xs : List ℕ) : Type 0 where
-  pub forwards : Forwards n next head xs
-  pub backwards : Backwards previous end xs
+  pub whole : Stretch n next previous end end head xs
 
 -- The task that a link leads to, and n where it leads to none.
 abbrev pub target : ℕ → ℤ → ℕ

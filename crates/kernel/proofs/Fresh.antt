@@ -7,6 +7,7 @@ use Prim.Native.Nat.{ℕ, zero, suc, _-_, _*_, _<_}
 use native.Mathlib.Omega.{arith}
 use lib.ListN.{getD, replicate, getD-replicate}
 use Rattle.chain.specs.Chain.{end, walk}
+use Rattle.chain.specs.Filing.{Queue}
 use Rattle.kernel.specs.declared.Channel.{Channel}
 use Rattle.kernel.specs.declared.Latest.the-variants.{Buffer}
 use Rattle.kernel.specs.declared.Session.the-variants.{Closed}
@@ -15,7 +16,7 @@ use Rattle.kernel.specs.declared.Slot.{Slot}
 use Rattle.kernel.specs.Sizes.{task-count, semaphore-count, channel-count, lifetime}
 use Rattle.kernel.specs.Status.{queue-of, queue-count}
 use Rattle.kernel.specs.Kernel.{Bare, Kernel, blank, task, queue, semaphore, channel, session, unused-semaphore, unused-channel, slot, slot-number}
-use Rattle.kernel.specs.Good.{Good, GoodTask, GoodQueue, GoodSemaphore, GoodChannel, Opens}
+use Rattle.kernel.specs.Good.{Good, GoodTask, GoodSemaphore, GoodChannel, Opens, place, deadline-of}
 use Rattle.kernel.specs.Seen.{past, record-at, head-of, queue-from, seen}
 use Rattle.kernel.specs.Sound.{Filed, Sound}
 use Rattle.kernel.specs.Fresh.{main, alone, fresh, fresh-at, fresh-state}
@@ -95,7 +96,7 @@ module _ (n : ℕ) where
   task-good zero = main-good
   task-good (suc x) = rw others (blank-good x)
 
-  queue-good : (q : ℕ) → q < queue-count → GoodQueue (fresh-at n) q
+  queue-good : (q : ℕ) → q < queue-count → Queue task-count (place (fresh-at n)) (deadline-of (fresh-at n)) q (queue fresh q)
   queue-good q h =
       record {
         only = rw no-one tt;
@@ -183,7 +184,7 @@ fresh-sound = record { filed = filed; good = rw fresh-seen fresh-good }
     filed : Filed fresh-state
     filed =
         record {
-          linked = λ q h. rw (none q) (record { forwards = head-at q h; backwards = tt });
+          linked = λ q h. rw (none q) (record { whole = head-at q h });
           alone-next = λ x h l. ap (λ (a : Task). a .next) (alone-at x h);
           alone-previous = λ x h l. ap (λ (a : Task). a .previous) (alone-at x h);
         }

@@ -1,5 +1,6 @@
 -- Facts about the definitions, which need no code.
 pub mod Refusals
+pub mod Seen
 pub mod Fresh
 pub mod Deadlines
 pub mod Shares

@@ -5,7 +5,7 @@ use mathlib.Core.Bool.{true, false, cond}
 use mathlib.Core.List.{List, [], _∷_}
 use Prim.Native.Nat.{ℕ, _+_, _*_, _≤_, _<_}
 use lib.ListN.{length}
-use Rattle.chain.specs.Lists.{All, Among, Once, Rising}
+use Rattle.chain.specs.Filing.{Queue}
 use Rattle.kernel.specs.declared.Class.{Class}
 use Rattle.kernel.specs.declared.Class.the-variants.{Nrt, Hard}
 use Rattle.kernel.specs.declared.Status.{Status}
@@ -32,12 +32,12 @@ abbrev pub NoLater : Kernel → ℕ → List ℕ → Type 0
 NoLater k d [] = Unit {0}
 NoLater k d (x ∷ xs) = d ≤ task k x .deadline
 
--- Queue q holds exactly the tasks of its status, once each, by rising deadline.
-pub record GoodQueue (k : Kernel) (q : ℕ) : Type 0 where
-  pub only : All (λ (x : ℕ). (x < task-count) × (queue-of (task k x .status) ≡ q)) (queue k q)
-  pub all : (x : ℕ) → x < task-count → queue-of (task k x .status) ≡ q → Among x (queue k q)
-  pub once : Once (queue k q)
-  pub rising : Rising (λ (x : ℕ). task k x .deadline) (queue k q)
+-- The queue of task x, and its deadline.
+abbrev pub place : Kernel → ℕ → ℕ
+place k x = queue-of (task k x .status)
+
+abbrev pub deadline-of : Kernel → ℕ → ℕ
+deadline-of k x = task k x .deadline
 
 -- ---- tasks
 
@@ -147,7 +147,8 @@ pub record Good (k : Kernel) : Type 0 where
   -- the stored task is a task, with deadline no later than the first ready one's
   pub running : k .running < task-count
   pub earliest : NoLater k (task k (k .running) .deadline) (queue k ready)
-  pub queues : (q : ℕ) → q < queue-count → GoodQueue k q
+  -- each chain holds exactly the tasks of its status, once each, by rising deadline
+  pub queues : (q : ℕ) → q < queue-count → Queue task-count (place k) (deadline-of k) q (queue k q)
   -- the stored share total is the sum of the shares of all HARD tasks that are not FREE, at most 1,000,000
   pub share : k .share ≡ shares (k .tasks)
   pub share-fits : k .share ≤ whole

@@ -1,5 +1,6 @@
 // The state of one controller, with its sizes, its refusal numbers and its fresh kernel, and what a call gives back.
 ghost use mathlib.Core.Path.{_≡_};
+ghost use Rattle.kernel.specs.Status.{status-number, stop-number, waiting, queue-of};
 ghost use Rattle.kernel.specs.Fresh.{fresh-state};
 
 // Numbers of three kinds, which cannot be mixed. A caller may hand in any.
@@ -207,5 +208,57 @@ impl State {
             channels: [channel; State::CHANNELS],
             sessions: [slot; State::SESSIONS],
         }
+    }
+}
+
+// The document's number of a status.
+pub fn status_number(status: Status) -> usize
+    ensures { λ r. ⌜ r ≡ status-number status ⌝ }
+{
+    match status {
+        Status::Free => 0,
+        Status::Ready => 1,
+        Status::Exe => 2,
+        Status::Sleep => 3,
+        Status::Idle => 4,
+        Status::Wait(_) => 5,
+        Status::Zombie => 6,
+    }
+}
+
+// 0 where the kernel is not stopped, 1 where it is stopped with -1, 2 with -2.
+pub fn stop_number(stop: Stop) -> usize
+    ensures { λ r. ⌜ r ≡ stop-number stop ⌝ }
+{
+    match stop {
+        Stop::Going => 0,
+        Stop::Overrun => 1,
+        Stop::Lifetime => 2,
+    }
+}
+
+// The queue of a semaphore, QUEUES where there is no semaphore of that number.
+fn waiters(semaphore: SemaphoreNo) -> usize
+    ensures { λ r. ⌜ r ≡ waiting (semaphore .0) ⌝ }
+{
+    let s = semaphore.0;
+    if s < State::SEMAPHORES {
+        return 3 + s;
+    }
+    State::QUEUES
+}
+
+// The queue in which a task of that status stands, QUEUES where it stands in none.
+pub fn queue_of(status: Status) -> usize
+    ensures { λ r. ⌜ r ≡ queue-of status ⌝ }
+{
+    match status {
+        Status::Free => State::QUEUES,
+        Status::Sleep => State::QUEUES,
+        Status::Exe => State::QUEUES,
+        Status::Ready => 0,
+        Status::Idle => 1,
+        Status::Zombie => 2,
+        Status::Wait(semaphore) => waiters(semaphore),
     }
 }

@@ -1,0 +1,22 @@
+-- What is read in a state, and what is seen of it. Assumes nothing.
+use mathlib.Core.Path.{_≡_, refl}
+use mathlib.Core.List.{List, [], _∷_, map}
+use Prim.Native.Nat.{ℕ, zero, suc, _<_}
+use native.Mathlib.Omega.{arith}
+use lib.ListN.{length, getD, List·getD-map}
+use lib.IntN.{pos}
+use Rattle.kernel.specs.declared.State.{State}
+use Rattle.kernel.specs.Status.{queue-count}
+use Rattle.kernel.specs.Kernel.{task, queue}
+use Rattle.kernel.specs.Seen.{bare, past, record-at, head-of, queue-from, seen}
+
+pub task-seen : (s : State) (x : ℕ) → task (seen s) x ≡ bare (record-at (s .tasks) x)
+task-seen s x = List·getD-map bare (s .tasks) x past
+
+within : {A B : Type 0} (f : A → B) (l : List A) (i : ℕ) (a : A) (b : B) → i < length l → getD (map f l) i b ≡ f (getD l i a)
+within f [] i a b h = absurd (omega arith)
+within f (x ∷ xs) zero a b h = refl
+within f (x ∷ xs) (suc i) a b h = within f xs i a b (omega arith)
+
+pub queue-seen : (s : State) (q : ℕ) → length (s .heads) ≡ queue-count → q < queue-count → queue (seen s) q ≡ queue-from (s .tasks) (head-of (s .heads) q)
+queue-seen s q e h = within (queue-from (s .tasks)) (s .heads) q (pos 0) [] (omega arith)

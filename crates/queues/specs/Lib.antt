@@ -1,0 +1,2 @@
+-- What the code of queues promises.
+pub mod First
