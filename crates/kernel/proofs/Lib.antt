@@ -1,6 +1,7 @@
 -- Facts about the definitions, which need no code.
 pub mod Refusals
 pub mod Seen
+pub mod Moves
 pub mod Fresh
 pub mod Deadlines
 pub mod Shares

@@ -1,2 +1,4 @@
--- What the code of queues promises.
+-- What the code of queues promises: of the lists, and to the letter.
 pub mod First
+pub mod Shows
+pub mod Links

@@ -1,11 +1,18 @@
-// Chapter 10's queues: the only code that writes a link or a head.
+// Chapter 10's queues: insert, extract and getfirst. No other code writes a link or a head.
 ghost use mathlib.Core.Path.{_≡_};
 ghost use Prim.Native.Nat.{_<_};
 ghost use Rattle.chain.specs.Chain.{target as leads-to};
 ghost use Rattle.kernel.specs.Sizes.{task-count};
-ghost use Rattle.kernel.specs.Status.{queue-count};
+ghost use Rattle.kernel.specs.Status.{queue-count, queue-of};
+ghost use Rattle.kernel.specs.Moves.{move};
+ghost use Rattle.kernel.specs.Seen.{seen};
 ghost use Rattle.queues.specs.First.{First};
+ghost use Rattle.queues.specs.Links.{Linked, Place, bare-of, with-record, with-next, with-previous, relinked, taken-out, filed-in};
+ghost use Rattle.queues.specs.Shows.{Kept, Shows};
+use kernel::Class;
 use kernel::State;
+use kernel::Status;
+use kernel::Task;
 
 // The task that a link leads to, TASKS where it leads to none.
 pub fn target(link: i8) -> usize
@@ -25,4 +32,146 @@ pub fn first(s: State, q: usize) -> usize
     let heads = s.heads;
     let head = heads[q];
     target(head)
+}
+
+// Task i has this record from now on.
+fn store(
+    s: State,
+    i: usize,
+    class: Class,
+    status: Status,
+    deadline: u32,
+    next: i8,
+    previous: i8,
+) -> State
+    requires { ⌜ i < task-count ⌝ }
+    ensures { λ r. ⌜ r ≡ with-record s i class status deadline next previous ⌝ }
+{
+    let t = Task {
+        class,
+        status,
+        deadline,
+        next,
+        previous,
+    };
+    let mut r = s;
+    r.tasks[i] = t;
+    r
+}
+
+// One link of task x. Past the table there is none.
+fn set_next(s: State, x: usize, link: i8) -> State
+    ensures { λ r. ⌜ r ≡ with-next s x link ⌝ }
+{
+    if x < State::TASKS {
+        let t = s.tasks[x];
+        let class = t.class;
+        let status = t.status;
+        let previous = t.previous;
+        return store(s, x, class, status, t.deadline, link, previous);
+    }
+    s
+}
+
+fn set_previous(s: State, x: usize, link: i8) -> State
+    ensures { λ r. ⌜ r ≡ with-previous s x link ⌝ }
+{
+    if x < State::TASKS {
+        let t = s.tasks[x];
+        let class = t.class;
+        let status = t.status;
+        let next = t.next;
+        return store(s, x, class, status, t.deadline, next, link);
+    }
+    s
+}
+
+// The links on both sides of a place in queue q are turned: what stands before it, or the head, leads to v, and what stands after it
+// back to w.
+fn relink(s: State, q: usize, before: i8, after: i8, v: i8, w: i8) -> State
+    requires { ⌜ q < queue-count ⌝ }
+    ensures { λ r. ⌜ r ≡ relinked s q before after v w ⌝ }
+{
+    let x = target(before);
+    let y = target(after);
+    let a = set_previous(s, y, w);
+    let b = set_next(a, x, v);
+    if x < State::TASKS {
+        return b;
+    }
+    let mut heads = b.heads;
+    heads[q] = v;
+    let mut r = b;
+    r.heads = heads;
+    r
+}
+
+pub struct Gap {
+    pub before: i8,
+    pub after: i8,
+}
+
+// Where a task of this deadline goes in queue q: past every deadline no later than its own.
+fn scan(s: State, q: usize, deadline: u32) -> Gap
+    requires { ⌜ q < queue-count ⌝ ∗ ⌜ Linked s q ⌝ }
+    ensures { λ r. ⌜ Place s q deadline (r .before) (r .after) ⌝ }
+{
+    let heads = s.heads;
+    let mut before: i8 = -1;
+    let mut after = heads[q];
+    let mut x = target(after);
+    while x < State::TASKS {
+        let t = s.tasks[x];
+        if deadline < t.deadline {
+            return Gap { before, after };
+        }
+        before = after;
+        after = t.next;
+        x = target(after);
+    }
+    Gap { before, after }
+}
+
+// Task i goes out of whichever queue it is in. It keeps its record, with no links.
+pub fn take_out(s: State, i: usize) -> State
+    requires { ⌜ i < task-count ⌝ }
+    ensures { λ r. ⌜ r ≡ taken-out s i ⌝ }
+{
+    let t = s.tasks[i];
+    let class = t.class;
+    let status = t.status;
+    let q = kernel::queue_of(status);
+    if q < State::QUEUES {
+        let before = t.previous;
+        let after = t.next;
+        let a = relink(s, q, before, after, after, before);
+        return store(a, i, class, status, t.deadline, -1, -1);
+    }
+    s
+}
+
+// Task i, which is in no queue, gets this record and goes into the queue of its new status, if that has one.
+pub fn file(s: State, i: usize, class: Class, status: Status, deadline: u32) -> State
+    requires { ⌜ i < task-count ⌝ ∗ ⌜ (queue-of status < queue-count → Linked s (queue-of status)) ⌝ }
+    ensures { λ r. ⌜ r ≡ filed-in s i (bare-of class status deadline) ⌝ }
+{
+    let q = kernel::queue_of(status);
+    if q < State::QUEUES {
+        let gap = scan(s, q, deadline);
+        let before = gap.before;
+        let after = gap.after;
+        let link = i as i8;
+        let a = store(s, i, class, status, deadline, after, before);
+        return relink(a, q, before, after, link, link);
+    }
+    store(s, i, class, status, deadline, -1, -1)
+}
+
+// Task i goes from its queue to that of its new status, with its new record.
+pub fn move_task(s: State, i: usize, class: Class, status: Status, deadline: u32) -> State
+    requires { ⌜ Kept s ⌝ ∗ ⌜ i < task-count ⌝ }
+    ensures { λ r. ⌜ Shows r (move (seen s) i (bare-of class status deadline)) ⌝ }
+{
+    let a = take_out(s, i);
+    file(a, i, class, status, deadline)
 }

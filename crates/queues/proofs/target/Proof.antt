@@ -1,9 +1,7 @@
 -- The sign of a link tells whether it leads to a task. Assumes nothing.
 use mathlib.Core.Path.{_≡_}
-use mathlib.Core.Bool.{true, false}
 use native.Mathlib.Omega.{arith}
-use lib.IntN.{pos}
-use lib.Signed.{ltZ, natAbs-le}
+use lib.Signed.{natAbs-le}
 use mir.Facts.{toZ-ofZ}
 use mir.Syntax.{w8}
 use mir.Val.{toZ, ofZ}

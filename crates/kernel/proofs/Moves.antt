@@ -1,0 +1,81 @@
+-- What a move does to each record and each queue, and that it keeps the queues in order. Assumes nothing.
+use mathlib.Core.Path.{_≡_, refl, ap, sym, _∙_}
+use mathlib.Core.List.{[]}
+use Prim.Native.Nat.{ℕ, _<_}
+use native.Mathlib.Omega.{arith}
+use native.Mathlib.Decide.{ℕ-discrete}
+use lib.ListN.{length, getD, set, length-set}
+use lib.Seq.{getD-set-same, getD-set-other}
+use lib.Dec.{leb}
+use Rattle.chain.specs.Lists.{insert, remove}
+use Rattle.chain.specs.Filing.{Queue}
+use Rattle.chain.proofs.Lists.{remove-absent}
+use Rattle.chain.proofs.Filing.{absent, loosened, loose-here, loose-there, queue-left, queue-joined}
+use Rattle.kernel.specs.Sizes.{task-count}
+use Rattle.kernel.specs.Status.{queue-of, queue-count}
+use Rattle.kernel.specs.Kernel.{Bare, Kernel, task, queue, blank, with-tasks}
+use Rattle.kernel.specs.Moves.{out, move}
+use Rattle.kernel.specs.Good.{place, deadline-of}
+
+-- A move changes the records and the queues, and nothing else.
+pub move-is : (k : Kernel) (i : ℕ) (a : Bare) → move k i a ≡ with-tasks k (set (k .tasks) i a) (move k i a .queues)
+unfolding move
+move-is k i a = refl
+
+pub move-sized : (k : Kernel) (i : ℕ) (a : Bare) → length (move k i a .queues) ≡ length (k .queues)
+unfolding move
+move-sized k i a = length-set (out k i) (queue-of (a .status)) _ ∙ length-set (k .queues) (place k i) _
+
+module _ (k : Kernel) (i : ℕ) (a : Bare) (tasks : length (k .tasks) ≡ task-count) (sized : length (k .queues) ≡ queue-count)
+    (queues : (q : ℕ) → q < queue-count → Queue task-count (place k) (deadline-of k) q (queue k q)) (li : i < task-count) where
+  pub moved-task : task (move k i a) i ≡ a
+  unfolding move
+  moved-task = getD-set-same (k .tasks) i a blank (omega arith)
+
+  pub kept-task : (x : ℕ) → (x ≡ i → ⊥) → task (move k i a) x ≡ task k x
+  unfolding move
+  kept-task x ne = getD-set-other (k .tasks) i x a blank ne
+
+  -- Once i is out, each queue is without it, the one in which it stood and the others.
+  out-queue : (q : ℕ) → q < queue-count → getD (out k i) q [] ≡ remove i (queue k q)
+  out-queue q l = go (ℕ-discrete q (place k i))
+    where
+      go : Dec (q ≡ place k i) → getD (out k i) q [] ≡ remove i (queue k q)
+      go (yes e) = rw e (getD-set-same (k .queues) (place k i) _ [] (omega arith))
+      go (no ne) = getD-set-other (k .queues) (place k i) q _ [] ne ∙ sym (remove-absent i (queue k q) (absent i (queues q l) (λ e. ne (sym e))))
+
+  pub moved-queue : queue-of (a .status) < queue-count → queue (move k i a) (queue-of (a .status)) ≡ insert (λ x. leb (deadline-of k x) (a .deadline)) i (remove i (queue k (queue-of (a .status))))
+  unfolding move
+  moved-queue l =
+      getD-set-same (out k i) (queue-of (a .status)) _ [] (omega (arith, length-set (k .queues) (place k i) (remove i (queue k (place k i)))))
+      ∙ ap (insert (λ x. leb (deadline-of k x) (a .deadline)) i) (out-queue (queue-of (a .status)) l)
+
+  pub kept-queue : (q : ℕ) → q < queue-count → (q ≡ queue-of (a .status) → ⊥) → queue (move k i a) q ≡ remove i (queue k q)
+  unfolding move
+  kept-queue q l ne = getD-set-other (out k i) (queue-of (a .status)) q _ [] ne ∙ out-queue q l
+
+  pub kept-place : (x : ℕ) → (x ≡ i → ⊥) → place (move k i a) x ≡ place k x
+  kept-place x ne = ap (λ (b : Bare). queue-of (b .status)) (kept-task x ne)
+
+  pub moved-place : place (move k i a) i ≡ queue-of (a .status)
+  moved-place = ap (λ (b : Bare). queue-of (b .status)) moved-task
+
+  kept-deadline : (x : ℕ) → (x ≡ i → ⊥) → deadline-of (move k i a) x ≡ deadline-of k x
+  kept-deadline x ne = ap (λ (b : Bare). b .deadline) (kept-task x ne)
+
+  -- The queues without i, which then stands in none.
+  pub out-queues : (q : ℕ) → q < queue-count → Queue task-count (loosened queue-count i (place k)) (deadline-of k) q (remove i (queue k q))
+  out-queues q l = queue-left (queues q l) (loose-there queue-count i (place k)) (λ x ne. refl) li (λ e. let h = loose-here queue-count i (place k) in omega arith)
+
+  pub moved-queues : (q : ℕ) → q < queue-count → Queue task-count (place (move k i a)) (deadline-of (move k i a)) q (queue (move k i a) q)
+  moved-queues q l = go (ℕ-discrete q (queue-of (a .status)))
+    where
+      passed : (x : ℕ) → leb (deadline-of k x) (a .deadline) ≡ leb (deadline-of k x) (deadline-of (move k i a) i)
+      passed x = ap (λ (b : Bare). leb (deadline-of k x) (b .deadline)) (sym moved-task)
+
+      go : Dec (q ≡ queue-of (a .status)) → Queue task-count (place (move k i a)) (deadline-of (move k i a)) q (queue (move k i a) q)
+      go (yes e) =
+          rw (e, moved-queue (rw (sym e) l))
+          (queue-joined (out-queues (queue-of (a .status)) (rw (sym e) l)) (λ x ne. kept-place x ne ∙ sym (loose-there queue-count i (place k) x ne)) kept-deadline _ passed li
+          (λ z. let h = loose-here queue-count i (place k) in omega arith) moved-place)
+      go (no ne) = rw (kept-queue q l ne) (queue-left (queues q l) kept-place kept-deadline li (λ z. ne (sym z ∙ moved-place)))

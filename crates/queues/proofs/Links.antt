@@ -1,0 +1,129 @@
+-- What a write to the table does to each link and each head. Assumes nothing.
+use mathlib.Core.Path.{_≡_, refl, ap, sym, _∙_}
+use mathlib.Core.Bool.{Bool, true, false, cond}
+use mathlib.Core.List.{List, map}
+use Prim.Native.Nat.{ℕ, _≤_, _<_}
+use native.Mathlib.Omega.{arith}
+use native.Mathlib.Decide.{ℕ-discrete}
+use lib.IntN.{ℤ, pos}
+use lib.ListN.{length, getD, set, length-set, List·getD-map}
+use lib.Seq.{set-out, getD-set-same, getD-set-other, map-set-same}
+use lib.Dec.{ltb}
+use Rattle.chain.specs.Chain.{target}
+use Rattle.chain.proofs.Links.{leads}
+use Rattle.chain.proofs.Splice.{Relinked, new-head}
+use Rattle.kernel.specs.declared.Task.{Task}
+use Rattle.kernel.specs.declared.State.{State}
+use Rattle.kernel.specs.Sizes.{task-count}
+use Rattle.kernel.specs.Seen.{bare, past, record-at, next-of, previous-of, head-of}
+use Rattle.queues.specs.Links.{with-table, with-next, with-previous, relinked}
+
+-- Past the table nothing is written.
+pub past-table : (s : State) (x : ℕ) (a : Task) → length (s .tasks) ≤ x → s ≡ with-table s (set (s .tasks) x a) (s .heads)
+past-table s x a h = ap (λ (ts : List Task). with-table s ts (s .heads)) (sym (set-out (s .tasks) x a h))
+
+-- What is stored has the same in one field: so has every record.
+field-kept : {B : Type 0} (f : Task → B) (ts : List Task) (x : ℕ) (a : Task) (y : ℕ) → f a ≡ f (record-at ts x) → f (record-at (set ts x a) y) ≡ f (record-at ts y)
+field-kept f ts x a y e =
+    sym (List·getD-map f (set ts x a) y past) ∙ ap (λ l. getD l y (f past)) (map-set-same f ts x a past e) ∙ List·getD-map f ts y past
+
+-- Another record stays, and past the table every one.
+record-kept : (ts : List Task) (x : ℕ) (a : Task) (y : ℕ) → (y ≡ x → y < length ts → ⊥) → record-at (set ts x a) y ≡ record-at ts y
+record-kept ts x a y ne = go (ℕ-discrete y x)
+  where
+    go : Dec (y ≡ x) → record-at (set ts x a) y ≡ record-at ts y
+    go (yes e) = let h : y < length ts → ⊥ = ne e in ap (λ (l : List Task). record-at l y) (set-out ts x a (omega arith))
+    go (no e) = getD-set-other ts x y a past e
+
+module _ (s : State) (x : ℕ) (link : ℤ) where
+  next-written : x < length (s .tasks) → next-of (with-next s x link .tasks) x ≡ link
+  unfolding with-next
+  next-written h = ap (λ (a : Task). a .next) (getD-set-same (s .tasks) x _ past h)
+
+  next-unwritten : (y : ℕ) → (y ≡ x → y < length (s .tasks) → ⊥) → next-of (with-next s x link .tasks) y ≡ next-of (s .tasks) y
+  unfolding with-next
+  next-unwritten y ne = ap (λ (a : Task). a .next) (record-kept (s .tasks) x _ y ne)
+
+  previous-besides : (y : ℕ) → previous-of (with-next s x link .tasks) y ≡ previous-of (s .tasks) y
+  unfolding with-next
+  previous-besides y = field-kept (λ (a : Task). a .previous) (s .tasks) x _ y refl
+
+  previous-written : x < length (s .tasks) → previous-of (with-previous s x link .tasks) x ≡ link
+  unfolding with-previous
+  previous-written h = ap (λ (a : Task). a .previous) (getD-set-same (s .tasks) x _ past h)
+
+  previous-unwritten : (y : ℕ) → (y ≡ x → y < length (s .tasks) → ⊥) → previous-of (with-previous s x link .tasks) y ≡ previous-of (s .tasks) y
+  unfolding with-previous
+  previous-unwritten y ne = ap (λ (a : Task). a .previous) (record-kept (s .tasks) x _ y ne)
+
+  next-besides : (y : ℕ) → next-of (with-previous s x link .tasks) y ≡ next-of (s .tasks) y
+  unfolding with-previous
+  next-besides y = field-kept (λ (a : Task). a .next) (s .tasks) x _ y refl
+
+  bare-next : map bare (with-next s x link .tasks) ≡ map bare (s .tasks)
+  unfolding with-next
+  bare-next = map-set-same bare (s .tasks) x _ past refl
+
+  bare-previous : map bare (with-previous s x link .tasks) ≡ map bare (s .tasks)
+  unfolding with-previous
+  bare-previous = map-set-same bare (s .tasks) x _ past refl
+
+  long-previous : length (with-previous s x link .tasks) ≡ length (s .tasks)
+  unfolding with-previous
+  long-previous = length-set (s .tasks) x _
+
+-- A link that leads to task x is the link to x.
+led : (x : ℕ) (link : ℤ) → x < task-count → x ≡ target task-count link → pos x ≡ link
+led x link l e = ap pos e ∙ sym (leads task-count link (omega arith))
+
+module _ (s : State) (q : ℕ) (before after v w : ℤ) where
+  abbrev turned : State
+  turned = relinked s q before after v w
+
+  -- The neighbours are turned, and nothing else.
+  pub relinks : (i : ℕ) → length (s .tasks) ≡ task-count → Relinked task-count i before after v w (next-of (s .tasks)) (previous-of (s .tasks)) (next-of (turned .tasks)) (previous-of (turned .tasks))
+  unfolding relinked
+  relinks i long =
+      let t = with-previous s (target task-count after) w in
+      let x = target task-count before in
+      let y = target task-count after in
+      record {
+        next-turned = λ z l ne e. let h : x ≡ z = ap (target task-count) (sym e) in rw h (next-written t z v (omega (arith, long-previous s y w)));
+        next-kept = λ z ne e. next-unwritten t x v z (λ h l. e (led z before (omega (arith, long-previous s y w)) h)) ∙ next-besides s y w z;
+        previous-turned = λ z l ne e. previous-besides t x v z ∙ (let h : y ≡ z = ap (target task-count) (sym e) in rw h (previous-written s z w (omega arith)));
+        previous-kept = λ z ne e. previous-besides t x v z ∙ previous-unwritten s y w z (λ h l. e (led z after (omega arith) h));
+      }
+
+  pub relinked-bare : map bare (turned .tasks) ≡ map bare (s .tasks)
+  unfolding relinked
+  relinked-bare = bare-next (with-previous s (target task-count after) w) (target task-count before) v ∙ bare-previous s (target task-count after) w
+
+  -- The head of queue q is turned where nothing stands before the place.
+  pub relinked-head : q < length (s .heads) → head-of (turned .heads) q ≡ new-head task-count before (head-of (s .heads) q) v
+  unfolding relinked with-next with-previous
+  relinked-head h = go (ltb (target task-count before) task-count)
+    where
+      go : (b : Bool) → head-of (cond b (s .heads) (set (s .heads) q v)) q ≡ cond b (head-of (s .heads) q) v
+      go true = refl
+      go false = getD-set-same (s .heads) q v _ h
+
+  pub other-heads : (p : ℕ) → (p ≡ q → ⊥) → head-of (turned .heads) p ≡ head-of (s .heads) p
+  unfolding relinked with-next with-previous
+  other-heads p ne = go (ltb (target task-count before) task-count)
+    where
+      go : (b : Bool) → head-of (cond b (s .heads) (set (s .heads) q v)) p ≡ head-of (s .heads) p
+      go true = refl
+      go false = getD-set-other (s .heads) q p v _ ne
+
+  pub relinked-long : length (turned .heads) ≡ length (s .heads)
+  unfolding relinked with-next with-previous
+  relinked-long = go (ltb (target task-count before) task-count)
+    where
+      go : (b : Bool) → length (cond b (s .heads) (set (s .heads) q v)) ≡ length (s .heads)
+      go true = refl
+      go false = length-set (s .heads) q v
+
+  -- The rest of the state stays.
+  pub relinked-rest : turned ≡ with-table s (turned .tasks) (turned .heads)
+  unfolding relinked with-next with-previous
+  relinked-rest = refl
