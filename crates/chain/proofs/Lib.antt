@@ -6,3 +6,4 @@ pub mod Stretch
 pub mod Splice
 pub mod Filing
 pub mod Scan
+pub mod Tests

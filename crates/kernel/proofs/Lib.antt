@@ -1,5 +1,6 @@
 -- Facts about the definitions, which need no code.
 pub mod Refusals
+pub mod Decided
 pub mod Seen
 pub mod Moves
 pub mod Fresh

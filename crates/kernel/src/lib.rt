@@ -104,7 +104,7 @@ impl State {
 
     pub const CHANNELS: usize = 4;
 
-    pub const QUEUES: usize = 3 + State::SEMAPHORES;
+    pub const QUEUES: usize = State::WAITERS + State::SEMAPHORES;
 
     pub const SESSIONS: usize = State::TASKS * State::CHANNELS;
 
@@ -211,30 +211,67 @@ impl State {
     }
 }
 
-// The document's number of a status.
+// The document's numbers of the statuses.
+impl Status {
+    pub const FREE: usize = 0;
+
+    pub const READY: usize = 1;
+
+    pub const EXE: usize = 2;
+
+    pub const SLEEP: usize = 3;
+
+    pub const IDLE: usize = 4;
+
+    pub const WAIT: usize = 5;
+
+    pub const ZOMBIE: usize = 6;
+}
+
+// The number of a status.
 pub fn status_number(status: Status) -> usize
     ensures { λ r. ⌜ r ≡ status-number status ⌝ }
 {
     match status {
-        Status::Free => 0,
-        Status::Ready => 1,
-        Status::Exe => 2,
-        Status::Sleep => 3,
-        Status::Idle => 4,
-        Status::Wait(_) => 5,
-        Status::Zombie => 6,
+        Status::Free => Status::FREE,
+        Status::Ready => Status::READY,
+        Status::Exe => Status::EXE,
+        Status::Sleep => Status::SLEEP,
+        Status::Idle => Status::IDLE,
+        Status::Wait(_) => Status::WAIT,
+        Status::Zombie => Status::ZOMBIE,
     }
 }
 
 // 0 where the kernel is not stopped, 1 where it is stopped with -1, 2 with -2.
+impl Stop {
+    pub const GOING: usize = 0;
+
+    pub const OVERRUN: usize = 1;
+
+    pub const LIFETIME: usize = 2;
+}
+
+// The number of a stop.
 pub fn stop_number(stop: Stop) -> usize
     ensures { λ r. ⌜ r ≡ stop-number stop ⌝ }
 {
     match stop {
-        Stop::Going => 0,
-        Stop::Overrun => 1,
-        Stop::Lifetime => 2,
+        Stop::Going => Stop::GOING,
+        Stop::Overrun => Stop::OVERRUN,
+        Stop::Lifetime => Stop::LIFETIME,
     }
+}
+
+// The numbers of the queues; those of the semaphores start at WAITERS.
+impl State {
+    pub const READY: usize = 0;
+
+    pub const IDLE: usize = 1;
+
+    pub const ZOMBIE: usize = 2;
+
+    pub const WAITERS: usize = 3;
 }
 
 // The queue of a semaphore, QUEUES where there is no semaphore of that number.
@@ -243,7 +280,7 @@ fn waiters(semaphore: SemaphoreNo) -> usize
 {
     let s = semaphore.0;
     if s < State::SEMAPHORES {
-        return 3 + s;
+        return State::WAITERS + s;
     }
     State::QUEUES
 }
@@ -256,9 +293,9 @@ pub fn queue_of(status: Status) -> usize
         Status::Free => State::QUEUES,
         Status::Sleep => State::QUEUES,
         Status::Exe => State::QUEUES,
-        Status::Ready => 0,
-        Status::Idle => 1,
-        Status::Zombie => 2,
+        Status::Ready => State::READY,
+        Status::Idle => State::IDLE,
+        Status::Zombie => State::ZOMBIE,
         Status::Wait(semaphore) => waiters(semaphore),
     }
 }

@@ -1,0 +1,4 @@
+-- What the tests' proofs share.
+pub mod Classes
+pub mod Waiters
+pub mod Sum

@@ -1,0 +1,2 @@
+-- What the soundness test asks of each queue and each task.
+pub mod Tests
