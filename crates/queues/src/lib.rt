@@ -92,11 +92,11 @@ fn relink(s: State, q: usize, before: i8, after: i8, v: i8, w: i8) -> State
     requires { ⌜ q < queue-count ⌝ }
     ensures { λ r. ⌜ r ≡ relinked s q before after v w ⌝ }
 {
-    let x = target(before);
-    let y = target(after);
-    let a = set_previous(s, y, w);
-    let b = set_next(a, x, v);
-    if x < State::TASKS {
+    let earlier = target(before);
+    let later = target(after);
+    let a = set_previous(s, later, w);
+    let b = set_next(a, earlier, v);
+    if earlier < State::TASKS {
         return b;
     }
     let mut heads = b.heads;

@@ -1,0 +1,93 @@
+// Tasks go from queue to queue, and the queues are printed.
+use crate::hall;
+use kernel::Class;
+use kernel::State;
+use kernel::Status;
+use libc::STDOUT_FILENO;
+
+// A move asks that the queues are in order, as they are in a sound state.
+fn moved(s: State, x: usize, class: Class, status: Status, deadline: u32) -> State {
+    if x < State::TASKS {
+        if soundness::sound(s) {
+            return queues::move_task(s, x, class, status, deadline);
+        }
+    }
+    s
+}
+
+// Prints task x, and gives the one behind it.
+fn print_task(s: State, x: usize) -> usize {
+    if x >= State::TASKS {
+        return x;
+    }
+    io::write_all(STDOUT_FILENO, b" ");
+    io::print_decimal(STDOUT_FILENO, x as u64);
+    let t = s.tasks[x];
+    let next = t.next;
+    queues::target(next)
+}
+
+fn print_queue(name: &[u8], s: State, q: usize) {
+    io::write_all(STDOUT_FILENO, name);
+    if q < State::QUEUES {
+        let a = queues::first(s, q);
+        let b = print_task(s, a);
+        let c = print_task(s, b);
+        let d = print_task(s, c);
+        let e = print_task(s, d);
+        print_task(s, e);
+    }
+    io::write_all(STDOUT_FILENO, b"\n");
+}
+
+fn print(step: &[u8], s: State) {
+    io::write_all(STDOUT_FILENO, step);
+    print_queue(b"  ready:", s, State::READY);
+    print_queue(b"  idle:", s, State::IDLE);
+    print_queue(b"  zombie:", s, State::ZOMBIE);
+    print_queue(b"  waiters of 1:", s, State::WAITERS + 1);
+    if soundness::sound(s) {
+        io::write_all(STDOUT_FILENO, b"  sound\n");
+    } else {
+        io::write_all(STDOUT_FILENO, b"  not sound\n");
+    }
+}
+
+pub fn moves() {
+    let hard = Class::Hard {
+        period: 10,
+        cost: 1,
+    };
+    let most = Class::Hard {
+        period: 10,
+        cost: 3,
+    };
+    let mut s = hall::hall();
+    print(b"at first\n", s);
+    s = moved(s, 9, hard, Status::Ready, 9);
+    print(b"9 comes behind its equals\n", s);
+    s = moved(
+        s,
+        8,
+        Class::Nrt { priority: 4 },
+        Status::Ready,
+        State::NRT_DEADLINE + 4,
+    );
+    print(b"8 comes before the main task\n", s);
+    s = moved(s, 3, hard, Status::Zombie, 9);
+    print(b"3 goes from the middle to the zombies\n", s);
+    s = moved(s, 2, most, Status::Idle, 13);
+    print(b"2, the first, goes to idle\n", s);
+    s = moved(
+        s,
+        6,
+        Class::Nrt { priority: 3 },
+        Status::Ready,
+        State::NRT_DEADLINE + 3,
+    );
+    print(b"6 waits no more\n", s);
+    s = moved(s, 7, Class::Nrt { priority: 0 }, Status::Free, 0);
+    print(b"7, the only waiter, goes\n", s);
+    s = moved(s, 2, most, Status::Idle, 11);
+    print(b"2 goes before 4\n", s);
+}
