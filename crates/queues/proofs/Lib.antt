@@ -4,3 +4,4 @@ pub mod Links
 pub mod Scans
 pub mod Out
 pub mod Moved
+pub mod Determined
