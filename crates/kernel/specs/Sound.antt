@@ -1,4 +1,6 @@
 -- A sound state: what its links must satisfy, and what the kernel seen in it must. Assumes nothing.
+use mathlib.Core.List.{List}
+use Prim.Native.Nat.{ℕ}
 use Rattle.chain.specs.Filing as Filing
 use Rattle.kernel.specs.declared.State.{State}
 use Rattle.kernel.specs.Sizes.{task-count}
@@ -7,10 +9,13 @@ use Rattle.kernel.specs.Kernel.{queue}
 use Rattle.kernel.specs.Seen.{next-of, previous-of, head-of, seen}
 use Rattle.kernel.specs.Good.{Good, place}
 
--- Links are mutual; FREE, SLEEP and EXE, which stand in no queue, have both links -1.
+-- The links and heads of a state hold these queues, of tasks that have these places.
+abbrev pub Holds : State → (ℕ → ℕ) → (ℕ → List ℕ) → Type 0
+Holds s place queue = Filing.Filed task-count queue-count place (next-of (s .tasks)) (previous-of (s .tasks)) (head-of (s .heads)) queue
+
+-- They hold the queues that are seen. Links are mutual; FREE, SLEEP and EXE, which stand in no queue, have both links -1.
 abbrev pub Filed : State → Type 0
-Filed s =
-    Filing.Filed task-count queue-count (place (seen s)) (next-of (s .tasks)) (previous-of (s .tasks)) (head-of (s .heads)) (queue (seen s))
+Filed s = Holds s (place (seen s)) (queue (seen s))
 
 pub record Sound (s : State) : Type 0 where
   pub filed : Filed s

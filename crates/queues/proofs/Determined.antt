@@ -1,20 +1,18 @@
 -- A state whose queues are in order is determined by what is seen of it. Assumes nothing.
 use mathlib.Core.Path.{_≡_, ap, sym, subst, _∙_}
-use mathlib.Core.List.{List}
 use Prim.Native.Nat.{ℕ, _<_}
 use native.Mathlib.Omega.{arith}
-use lib.IntN.{ℤ}
 use lib.ListN.{length, length-map}
 use lib.Seq.{ext-getD}
-use Rattle.chain.specs.Filing as Filing
 use Rattle.chain.proofs.Filing.{determined}
 use Rattle.kernel.specs.declared.Task.{Task}
 use Rattle.kernel.specs.declared.State.{State}
 use Rattle.kernel.specs.Sizes.{task-count}
 use Rattle.kernel.specs.Status.{queue-count}
-use Rattle.kernel.specs.Kernel.{Bare, Kernel, task, queue}
-use Rattle.kernel.specs.Seen.{bare, past, record-at, next-of, previous-of, head-of, seen}
+use Rattle.kernel.specs.Kernel.{Kernel, task, queue}
+use Rattle.kernel.specs.Seen.{bare, past, record-at, seen}
 use Rattle.kernel.specs.Good.{place}
+use Rattle.kernel.specs.Sound.{Holds}
 use Rattle.kernel.proofs.Seen.{task-seen}
 use Rattle.queues.specs.Shows.{Shows}
 
@@ -31,7 +29,7 @@ shows-once {a} {b} {k} lt lq g h =
     λ s w. (sym (length-map (s .tasks) bare) ∙ ap (λ (j : Kernel). length (j .tasks)) (w .is) ∙ lt, sym (length-map (s .heads) _) ∙ ap (λ (j : Kernel). length (j .queues)) (w .is) ∙ lq) in
     let d =
     determined (g .kept .filed)
-    (subst (λ (j : Kernel). Filing.Filed task-count queue-count (place j) (next-of (b .tasks)) (previous-of (b .tasks)) (head-of (b .heads)) (queue j)) (sym e) (h .kept .filed))
+    (subst (λ (j : Kernel). Holds b (place j) (queue j)) (sym e) (h .kept .filed))
     (g .kept .queues) in
     let same : (x : ℕ) → x < task-count → record-at (a .tasks) x ≡ record-at (b .tasks) x =
     λ x l. same-record _ _ (sym (task-seen a x) ∙ ap (λ (j : Kernel). task j x) e ∙ task-seen b x) (d .0 x l .0) (d .0 x l .1) in

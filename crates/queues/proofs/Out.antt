@@ -9,7 +9,6 @@ use lib.Seq.{getD-set-same, getD-set-other, set-getD}
 use borrow.Author.Tests.{lt-ltb, le-ltb}
 use Rattle.chain.specs.Lists.{remove}
 use Rattle.chain.specs.Chain.{end}
-use Rattle.chain.specs.Filing as Filing
 use Rattle.chain.proofs.Lists.{remove-absent}
 use Rattle.chain.proofs.Filing.{absent, loosened, loose-here, loose-there, left, stored}
 use Rattle.kernel.specs.declared.Task.{Task}
@@ -17,14 +16,23 @@ use Rattle.kernel.specs.declared.State.{State}
 use Rattle.kernel.specs.Sizes.{task-count}
 use Rattle.kernel.specs.Status.{queue-of, queue-count}
 use Rattle.kernel.specs.Kernel.{Bare, queue, blank}
-use Rattle.kernel.specs.Seen.{bare, past, record-at, next-of, previous-of, head-of, seen}
+use Rattle.kernel.specs.Seen.{bare, past, record-at, next-of, previous-of, seen}
 use Rattle.kernel.specs.Good.{place}
-use Rattle.kernel.proofs.Seen.{held-length, task-seen}
+use Rattle.kernel.specs.Sound.{Holds}
+use Rattle.kernel.proofs.Seen.{task-seen}
 use Rattle.queues.specs.Links.{with-table, with-record, relinked, taken-out}
 use Rattle.queues.specs.Shows.{Kept}
 use Rattle.queues.proofs.Links.{relinks, relinked-bare, relinked-head, other-heads, relinked-long, relinked-rest}
 
--- A write of the record of task i leaves the other tasks' links.
+-- What a move may count on: the queues are in order, i is a task, and the tables have the sizes that their types give them.
+pub record Movable (s : State) (i : ℕ) : Type 0 where
+  pub kept : Kept s
+  pub is-task : i < task-count
+  pub tasks : length (s .tasks) ≡ task-count
+  pub heads : length (s .heads) ≡ queue-count
+
+-- ---- one record is written
+
 module _ (ts : List Task) (i : ℕ) (a : Task) where
   pub next-besides : (x : ℕ) → (x ≡ i → ⊥) → next-of (set ts i a) x ≡ next-of ts x
   next-besides x ne = ap (λ (b : Task). b .next) (getD-set-other ts i x a past ne)
@@ -40,60 +48,75 @@ records-with [] i a = refl
 records-with (x ∷ ts) zero a = refl
 records-with (x ∷ ts) (suc i) a = ap (λ (l : List Bare). bare x ∷ l) (records-with ts i a)
 
--- Task i is out: the queues are without it, in s as it was and in t as it is.
+-- ---- task i goes out
+
+-- In t the queues are those of s without i, and nothing else has changed.
 pub record Out (s : State) (i : ℕ) (t : State) : Type 0 where
-  pub filed : Filing.Filed task-count queue-count (loosened queue-count i (place (seen s))) (next-of (t .tasks)) (previous-of (t .tasks)) (head-of (t .heads)) (λ q. remove i (queue (seen s) q))
+  pub filed : Holds t (loosened queue-count i (place (seen s))) (λ q. remove i (queue (seen s) q))
   pub records : map bare (t .tasks) ≡ map bare (s .tasks)
-  pub long : length (t .heads) ≡ queue-count
+  pub heads : length (t .heads) ≡ queue-count
   pub rest : t ≡ with-table s (t .tasks) (t .heads)
 
-module _ (s : State) (i : ℕ) (kept : Kept s) (li : i < task-count) (tasks : length (s .tasks) ≡ task-count) (heads : length (s .heads) ≡ queue-count) where
+-- As many records as before.
+pub as-many : (s t : State) → map bare (t .tasks) ≡ map bare (s .tasks) → length (s .tasks) ≡ task-count → length (t .tasks) ≡ task-count
+as-many s t e l = sym (length-map (t .tasks) bare) ∙ ap length e ∙ length-map (s .tasks) bare ∙ l
+
+module _ {s : State} {i : ℕ} (m : Movable s i) where
   abbrev a : Task
   a = record-at (s .tasks) i
 
-  stood : place (seen s) i ≡ queue-of (a .status)
+  abbrev p : ℕ
+  p = queue-of (a .status)
+
+  stood : place (seen s) i ≡ p
   stood = ap (λ (b : Bare). queue-of (b .status)) (task-seen s i)
 
-  out-of-one : queue-of (a .status) < queue-count → Out s i (with-record (relinked s (queue-of (a .status)) (a .previous) (a .next) (a .next) (a .previous)) i (a .class) (a .status) (a .deadline) end end)
+  loose : queue-count ≤ loosened queue-count i (place (seen s)) i
+  loose = rw (loose-here queue-count i (place (seen s))) (omega arith)
+
+  out-of-one : p < queue-count → Out s i (with-record (relinked s p (a .previous) (a .next) (a .next) (a .previous)) i (a .class) (a .status) (a .deadline) end end)
   out-of-one l =
-      let p = queue-of (a .status) in
       let t = relinked s p (a .previous) (a .next) (a .next) (a .previous) in
       let b : Task = record { class = a .class; status = a .status; deadline = a .deadline; next = end; previous = end } in
-      let r = relinks s p (a .previous) (a .next) (a .next) (a .previous) i tasks in
-      let e : map bare (t .tasks) ≡ map bare (s .tasks) = relinked-bare s p (a .previous) (a .next) (a .next) (a .previous) in
-      let w = written (t .tasks) i b (omega (arith, held-length Task Bare bare (t .tasks) task-count (ap length e ∙ length-map (s .tasks) bare ∙ tasks))) in
+      let r = relinks s p (a .previous) (a .next) (a .next) (a .previous) i (m .tasks) in
+      let e = relinked-bare s p (a .previous) (a .next) (a .next) (a .previous) in
+      let w = written (t .tasks) i b (omega (arith, as-many s t e (m .tasks), m .is-task)) in
       record {
         filed =
-            left (kept .filed) (kept .queues) li (loose-there queue-count i (place (seen s))) (rw stood l) (rw (loose-here queue-count i (place (seen s))) (omega arith))
+            left (m .kept .filed) (m .kept .queues) (m .is-task) (loose-there queue-count i (place (seen s))) (rw stood l) loose
             (record {
               next-turned = λ x lx ne z. next-besides (t .tasks) i b x ne ∙ r .next-turned x lx ne z;
               next-kept = λ x ne z. next-besides (t .tasks) i b x ne ∙ r .next-kept x ne z;
               previous-turned = λ x lx ne z. previous-besides (t .tasks) i b x ne ∙ r .previous-turned x lx ne z;
               previous-kept = λ x ne z. previous-besides (t .tasks) i b x ne ∙ r .previous-kept x ne z;
-            }) (ap (λ (c : Task). c .next) w) (ap (λ (c : Task). c .previous) w)
-            (rw stood (relinked-head s p (a .previous) (a .next) (a .next) (a .previous) (omega arith)))
+            })
+            (ap (λ (c : Task). c .next) w) (ap (λ (c : Task). c .previous) w)
+            (rw stood (relinked-head s p (a .previous) (a .next) (a .next) (a .previous) (let h = m .heads in omega arith)))
             (λ q ne. other-heads s p (a .previous) (a .next) (a .next) (a .previous) q (λ z. ne (z ∙ sym stood)));
-        records = records-with (t .tasks) i b ∙ ap (λ (l : List Bare). set l i (bare a)) e ∙ ap (set (map bare (s .tasks)) i) (sym (task-seen s i)) ∙ set-getD (map bare (s .tasks)) i blank;
-        long = relinked-long s p (a .previous) (a .next) (a .next) (a .previous) ∙ heads;
+        records =
+            records-with (t .tasks) i b ∙ ap (λ (l : List Bare). set l i (bare a)) e ∙ ap (set (map bare (s .tasks)) i) (sym (task-seen s i))
+            ∙ set-getD (map bare (s .tasks)) i blank;
+        heads = relinked-long s p (a .previous) (a .next) (a .next) (a .previous) ∙ m .heads;
         rest = ap (λ (u : State). with-table u (set (t .tasks) i b) (t .heads)) (relinked-rest s p (a .previous) (a .next) (a .next) (a .previous));
       }
 
-  out-of-none : queue-count ≤ queue-of (a .status) → Out s i s
+  out-of-none : queue-count ≤ p → Out s i s
   out-of-none l =
+      let free : queue-count ≤ place (seen s) i = rw stood l in
       record {
         filed =
-            stored (kept .filed) (kept .queues) li (loose-there queue-count i (place (seen s))) (rw stood l) (rw (loose-here queue-count i (place (seen s))) (omega arith)) (λ x ne. (refl, refl))
-            (kept .filed .alone-next i li (rw stood l)) (kept .filed .alone-previous i li (rw stood l)) (λ q. refl)
-            (λ q lq. remove-absent i (queue (seen s) q) (absent i (kept .queues q lq) (λ e. let z = stood in omega arith)));
+            stored (m .kept .filed) (m .kept .queues) (m .is-task) (loose-there queue-count i (place (seen s))) free loose (λ x ne. (refl, refl))
+            (m .kept .filed .alone-next i (m .is-task) free) (m .kept .filed .alone-previous i (m .is-task) free) (λ q. refl)
+            (λ q lq. remove-absent i (queue (seen s) q) (absent i (m .kept .queues q lq) (λ e. omega arith)));
         records = refl;
-        long = heads;
+        heads = m .heads;
         rest = refl;
       }
 
   pub out : Out s i (taken-out s i)
   unfolding taken-out
-  out = go (decLt (queue-of (a .status)) queue-count)
+  out = go (decLt p queue-count)
     where
-      go : Dec (queue-of (a .status) < queue-count) → Out s i (taken-out s i)
-      go (yes l) = rw (lt-ltb (queue-of (a .status)) queue-count l) (out-of-one l)
-      go (no ne) = rw (le-ltb (queue-of (a .status)) queue-count (omega arith)) (out-of-none (omega arith))
+      go : Dec (p < queue-count) → Out s i (taken-out s i)
+      go (yes l) = rw (lt-ltb p queue-count l) (out-of-one l)
+      go (no ne) = rw (le-ltb p queue-count (omega arith)) (out-of-none (omega arith))

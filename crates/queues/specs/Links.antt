@@ -1,4 +1,4 @@
--- What the code writes, to the letter. Assumes nothing.
+-- What the code finds in the links and writes there, to the letter. Assumes nothing.
 use mathlib.Core.Bool.{Bool, cond}
 use mathlib.Core.List.{List}
 use Prim.Native.Nat.{ℕ}
@@ -17,6 +17,23 @@ use Rattle.kernel.specs.Kernel.{Bare, queue}
 use Rattle.kernel.specs.Seen.{record-at, next-of, previous-of, head-of, seen}
 use Rattle.kernel.specs.Good.{deadline-of}
 
+-- ---- what it finds
+
+-- Queue q is a chain.
+abbrev pub Linked : State → ℕ → Type 0
+Linked s q = Chain task-count (next-of (s .tasks)) (previous-of (s .tasks)) (head-of (s .heads) q) (queue (seen s) q)
+
+-- A deadline no later than d is passed.
+abbrev pub passes : State → ℕ → ℕ → Bool
+passes s d x = leb (deadline-of (seen s) x) d
+
+-- The links on both sides of the place that a task of deadline d takes in queue q.
+abbrev pub Place : State → ℕ → ℕ → ℤ → ℤ → Type 0
+Place s q d before after = Gap (passes s d) (queue (seen s) q) before after
+
+-- ---- what it writes
+
+-- Another table of tasks, and other heads.
 abbrev pub with-table : State → List Task → List ℤ → State
 with-table s ts hs =
     record { clock = s .clock; stop = s .stop; running = s .running; share = s .share; tasks = ts; heads = hs; semaphores = s .semaphores; channels = s .channels; sessions = s .sessions }
@@ -47,20 +64,9 @@ taken-out s i =
     let q = queue-of (a .status) in
     cond (ltb q queue-count) (with-record (relinked s q (a .previous) (a .next) (a .next) (a .previous)) i (a .class) (a .status) (a .deadline) end end) s
 
--- Queue q is a chain.
-abbrev pub Linked : State → ℕ → Type 0
-Linked s q = Chain task-count (next-of (s .tasks)) (previous-of (s .tasks)) (head-of (s .heads) q) (queue (seen s) q)
-
+-- A record without its links.
 abbrev pub bare-of : Class → Status → ℕ → Bare
 bare-of class status deadline = record { class = class; status = status; deadline = deadline }
-
--- A deadline no later than d is passed.
-abbrev pub passes : State → ℕ → ℕ → Bool
-passes s d x = leb (deadline-of (seen s) x) d
-
--- The links on both sides of the place that a task of deadline d takes in queue q.
-abbrev pub Place : State → ℕ → ℕ → ℤ → ℤ → Type 0
-Place s q d before after = Gap (passes s d) (queue (seen s) q) before after
 
 -- Task i has its new record, and has gone into the queue of its new status, if that has one, at its place.
 unfoldable pub filed-in : State → ℕ → Bare → State

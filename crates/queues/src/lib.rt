@@ -59,7 +59,7 @@ fn store(
     r
 }
 
-// One link of task x. Past the table there is none.
+// One link of task x. Past the table there is none, and nothing is written: so too where a queue's only task goes.
 fn set_next(s: State, x: usize, link: i8) -> State
     ensures { λ r. ⌜ r ≡ with-next s x link ⌝ }
 {
@@ -106,9 +106,10 @@ fn relink(s: State, q: usize, before: i8, after: i8, v: i8, w: i8) -> State
     r
 }
 
-pub struct Gap {
-    pub before: i8,
-    pub after: i8,
+// The links on both sides of a place.
+struct Gap {
+    before: i8,
+    after: i8,
 }
 
 // Where a task of this deadline goes in queue q: past every deadline no later than its own.
