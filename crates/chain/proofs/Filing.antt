@@ -8,12 +8,12 @@ use native.Mathlib.Decide.{decLt, ℕ-discrete}
 use lib.IntN.{ℤ, pos}
 use lib.Dec.{leb, eqb}
 use borrow.Author.Tests.{eq-eqb, ne-eqb}
-use Rattle.chain.specs.Lists.{All, Among, Once, Rising, insert, lead, behind, remove}
-use Rattle.chain.specs.Chain.{end, start, finish, Chain}
+use Rattle.chain.specs.Lists.{All, Among, Once, Rising, insert, remove}
+use Rattle.chain.specs.Chain.{end, start, finish, Chain, Gap}
 use Rattle.chain.specs.Filing.{Queue, Filed}
 use Rattle.chain.proofs.Lists.{Absent, More, all-map, all-zip, all-left, all-right, all-among, more-all, less-all, more-here, more-among, less-among, more-once, less-once, less-rising, rising-same, removed, remove-absent, inserted, insert-rising}
 use Rattle.chain.proofs.Stretch.{no-task, framed, same-links}
-use Rattle.chain.proofs.Splice.{Relinked, new-head, kept, neighbours, gone, come}
+use Rattle.chain.proofs.Splice.{Relinked, Written, kept, neighbours, gone, come}
 
 -- ---- the lists
 
@@ -118,36 +118,33 @@ module _ {n m : ℕ} {place deadline place′ : ℕ → ℕ} {next previous head
     (f : Filed n m place next previous head queue) (k : (q : ℕ) → q < m → Queue n place deadline q (queue q)) (li : i < n)
     (places : (x : ℕ) → (x ≡ i → ⊥) → place′ x ≡ place x) where
   -- Task i goes out of its queue.
-  pub left : place i < m → m ≤ place′ i → Relinked n i (previous i) (next i) (next i) (previous i) next previous next′ previous′ → next′ i ≡ end → previous′ i ≡ end
-      → head′ (place i) ≡ new-head n (previous i) (head (place i)) (next i) → ((q : ℕ) → (q ≡ place i → ⊥) → head′ q ≡ head q)
+  pub left : place i < m → m ≤ place′ i → Written n i (place i) (previous i) (next i) (next i) (previous i) end end next previous head next′ previous′ head′
       → Filed n m place′ next′ previous′ head′ (λ q. remove i (queue q))
-  left lp l r en ep eh hs =
+  left lp l w =
       let xs = queue (place i) in
       let kp = k (place i) lp in
       let g = removed i xs (kp .all i li refl) in
       let b = neighbours g (f .linked (place i) lp) in
       let o : All (λ (x : ℕ). (place x ≡ place i) × (place i < m)) (g .front ++ i ∷ g .back) = rw (g .more) at (its m kp lp) in
       refiled f i (place i) (λ q lq. its m (k q lq) lq) places
-      (λ q lq ne. let a = absent i (k q lq) (λ e. ne (sym e)) in (hs q ne, remove-absent i (queue q) a, a))
-      (λ h. (en, ep)) (g .front) (g .back) (b .0) (b .1) r (all-left _ (g .front) (i ∷ g .back) o) (all-right _ (g .front) (i ∷ g .back) o .1)
-      (λ h. gone g r eh (f .linked (place i) lp))
+      (λ q lq ne. let a = absent i (k q lq) (λ e. ne (sym e)) in (w .heads-kept q ne, remove-absent i (queue q) a, a))
+      (λ h. (w .next-is, w .previous-is)) (g .front) (g .back) (b .0) (b .1) (w .sides)
+      (all-left _ (g .front) (i ∷ g .back) o) (all-right _ (g .front) (i ∷ g .back) o .1) (λ h. gone g (w .sides) (w .head-is) (f .linked (place i) lp))
 
   -- Task i, which stands in no queue, comes into one.
-  pub joined : (passes : ℕ → Bool) {before after : ℤ} {queue′ : ℕ → List ℕ} → m ≤ place i → place′ i < m
-      → before ≡ finish end (lead passes (queue (place′ i))) → after ≡ start end (behind passes (queue (place′ i)))
-      → Relinked n i before after (pos i) (pos i) next previous next′ previous′ → next′ i ≡ after → previous′ i ≡ before
-      → head′ (place′ i) ≡ new-head n before (head (place′ i)) (pos i) → ((q : ℕ) → (q ≡ place′ i → ⊥) → head′ q ≡ head q)
+  pub joined : (passes : ℕ → Bool) {before after : ℤ} {queue′ : ℕ → List ℕ} → m ≤ place i → place′ i < m → Gap passes (queue (place′ i)) before after
+      → Written n i (place′ i) before after (pos i) (pos i) after before next previous head next′ previous′ head′
       → queue′ (place′ i) ≡ insert passes i (queue (place′ i)) → ((q : ℕ) → q < m → (q ≡ place′ i → ⊥) → queue′ q ≡ queue q)
       → Filed n m place′ next′ previous′ head′ queue′
-  joined passes free lp eb ea r en ep eh hs here there =
+  joined passes free lp gap w here there =
       let xs = queue (place′ i) in
       let kp = k (place′ i) lp in
       let g = inserted passes i xs in
       let a : (q : ℕ) → q < m → Absent i (queue q) = λ q lq. absent i (k q lq) (λ e. omega arith) in
       let o : All (λ (x : ℕ). (place x ≡ place′ i) × (place′ i < m)) (g .front ++ g .back) = rw (g .less) at (its m kp lp) in
-      refiled f i (place′ i) (λ q lq. its m (k q lq) lq) places (λ q lq ne. (hs q ne, there q lq ne, a q lq)) (λ h. absurd (omega arith))
-      (g .front) (g .back) eb ea r (all-left _ (g .front) (g .back) o) (all-right _ (g .front) (g .back) o)
-      (λ h. rw here (come g eb ea li (a (place′ i) lp) r en ep eh (f .linked (place′ i) lp)))
+      refiled f i (place′ i) (λ q lq. its m (k q lq) lq) places (λ q lq ne. (w .heads-kept q ne, there q lq ne, a q lq)) (λ h. absurd (omega arith))
+      (g .front) (g .back) (gap .before-is) (gap .after-is) (w .sides) (all-left _ (g .front) (g .back) o) (all-right _ (g .front) (g .back) o)
+      (λ h. rw here (come g (gap .before-is) (gap .after-is) li (a (place′ i) lp) (w .sides) (w .next-is) (w .previous-is) (w .head-is) (f .linked (place′ i) lp)))
 
   -- Task i stands in no queue, and stays in none.
   pub stored : {queue′ : ℕ → List ℕ} → m ≤ place i → m ≤ place′ i → ((x : ℕ) → (x ≡ i → ⊥) → (next′ x ≡ next x) × (previous′ x ≡ previous x)) → next′ i ≡ end → previous′ i ≡ end

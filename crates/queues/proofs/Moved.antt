@@ -101,16 +101,19 @@ module _ {s : State} {i : ℕ} (h : Movable s i) where
         let kept = kept-links (relinks u q before after (pos i) (pos i) task-count long) (w .front) (w .back) eb ea i (λ e. let z = h .is-task in omega arith)
         (all-left _ (w .front) (w .back) away) (all-right _ (w .front) (w .back) away) in
         let stands : place k i ≡ q = Moves.moved-place m b in
-        joined (o .filed) (Moves.out-queues m) (h .is-task) places (passes s (b .deadline)) free (rw stands l) (rw stands eb) (rw stands ea)
+        joined (o .filed) (Moves.out-queues m) (h .is-task) places (passes s (b .deadline)) free (rw stands l) (rw stands (record { before-is = eb; after-is = ea }))
         (record {
-          next-turned = r .next-turned;
-          next-kept = λ x ne z. r .next-kept x ne z ∙ next-besides (t .tasks) i (clothed after before) x ne;
-          previous-turned = r .previous-turned;
-          previous-kept = λ x ne z. r .previous-kept x ne z ∙ previous-besides (t .tasks) i (clothed after before) x ne;
+          sides = record {
+            next-turned = r .next-turned;
+            next-kept = λ x ne z. r .next-kept x ne z ∙ next-besides (t .tasks) i (clothed after before) x ne;
+            previous-turned = r .previous-turned;
+            previous-kept = λ x ne z. r .previous-kept x ne z ∙ previous-besides (t .tasks) i (clothed after before) x ne;
+          };
+          next-is = kept .0 ∙ ap (λ (c : Task). c .next) (own after before);
+          previous-is = kept .1 ∙ ap (λ (c : Task). c .previous) (own after before);
+          head-is = rw stands (relinked-head u q before after (pos i) (pos i) (let z = o .heads in omega arith));
+          heads-kept = λ p ne. other-heads u q before after (pos i) (pos i) p (λ z. ne (z ∙ sym stands));
         })
-        (kept .0 ∙ ap (λ (c : Task). c .next) (own after before)) (kept .1 ∙ ap (λ (c : Task). c .previous) (own after before))
-        (rw stands (relinked-head u q before after (pos i) (pos i) (let z = o .heads in omega arith)))
-        (λ p ne. other-heads u q before after (pos i) (pos i) p (λ z. ne (z ∙ sym stands)))
         (rw stands (Moves.moved-queue m b l)) (λ p lp ne. Moves.kept-queue m b p lp (λ z. ne (z ∙ sym stands)))
 
     -- A state with the move's records, whose links hold the move's queues, shows the move.

@@ -85,14 +85,17 @@ module _ {s : State} {i : ℕ} (m : Movable s i) where
         filed =
             left (m .kept .filed) (m .kept .queues) (m .is-task) (loose-there queue-count i (place (seen s))) (rw stood l) loose
             (record {
-              next-turned = λ x lx ne z. next-besides (t .tasks) i b x ne ∙ r .next-turned x lx ne z;
-              next-kept = λ x ne z. next-besides (t .tasks) i b x ne ∙ r .next-kept x ne z;
-              previous-turned = λ x lx ne z. previous-besides (t .tasks) i b x ne ∙ r .previous-turned x lx ne z;
-              previous-kept = λ x ne z. previous-besides (t .tasks) i b x ne ∙ r .previous-kept x ne z;
-            })
-            (ap (λ (c : Task). c .next) w) (ap (λ (c : Task). c .previous) w)
-            (rw stood (relinked-head s p (a .previous) (a .next) (a .next) (a .previous) (let h = m .heads in omega arith)))
-            (λ q ne. other-heads s p (a .previous) (a .next) (a .next) (a .previous) q (λ z. ne (z ∙ sym stood)));
+              sides = record {
+                next-turned = λ x lx ne z. next-besides (t .tasks) i b x ne ∙ r .next-turned x lx ne z;
+                next-kept = λ x ne z. next-besides (t .tasks) i b x ne ∙ r .next-kept x ne z;
+                previous-turned = λ x lx ne z. previous-besides (t .tasks) i b x ne ∙ r .previous-turned x lx ne z;
+                previous-kept = λ x ne z. previous-besides (t .tasks) i b x ne ∙ r .previous-kept x ne z;
+              };
+              next-is = ap (λ (c : Task). c .next) w;
+              previous-is = ap (λ (c : Task). c .previous) w;
+              head-is = rw stood (relinked-head s p (a .previous) (a .next) (a .next) (a .previous) (let h = m .heads in omega arith));
+              heads-kept = λ q ne. other-heads s p (a .previous) (a .next) (a .next) (a .previous) q (λ z. ne (z ∙ sym stood));
+            });
         records =
             records-with (t .tasks) i b ∙ ap (λ (l : List Bare). set l i (bare a)) e ∙ ap (set (map bare (s .tasks)) i) (sym (task-seen s i))
             ∙ set-getD (map bare (s .tasks)) i blank;
