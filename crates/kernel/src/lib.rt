@@ -1,4 +1,4 @@
-// The state of one controller, with its sizes, its refusal numbers and its fresh kernel, and what a call gives back.
+// The state of one controller, with its sizes, its numbers and its fresh kernel, and what a call gives back.
 ghost use mathlib.Core.Path.{_≡_};
 ghost use Rattle.kernel.specs.Status.{status-number, stop-number, waiting, queue-of};
 ghost use Rattle.kernel.specs.Fresh.{fresh-state};

@@ -1,4 +1,4 @@
-// Chapter 10's queues: insert, extract and getfirst. No other code writes a link or a head.
+// Chapter 10's queues: insert, extract and getfirst. But for the fresh kernel, no other code writes a link or a head.
 ghost use mathlib.Core.Path.{_≡_};
 ghost use Prim.Native.Nat.{_<_};
 ghost use Rattle.chain.specs.Chain.{target as leads-to};
