@@ -53,6 +53,13 @@ fn print(step: &[u8], s: State) {
     }
 }
 
+// A task moves, and the queues are printed.
+fn step(name: &[u8], s: State, x: usize, class: Class, status: Status, deadline: u32) -> State {
+    let r = moved(s, x, class, status, deadline);
+    print(name, r);
+    r
+}
+
 pub fn moves() {
     let hard = Class::Hard {
         period: 10,
@@ -62,32 +69,44 @@ pub fn moves() {
         period: 10,
         cost: 3,
     };
+    let third = Class::Nrt { priority: 3 };
+    let fourth = Class::Nrt { priority: 4 };
+    let blank = Class::Nrt { priority: 0 };
     let mut s = hall::hall();
     print(b"at first\n", s);
-    s = moved(s, 9, hard, Status::Ready, 9);
-    print(b"9 comes behind its equals\n", s);
-    s = moved(
+    s = step(b"9 comes behind its equals\n", s, 9, hard, Status::Ready, 9);
+    s = step(
+        b"8 comes before the main task\n",
         s,
         8,
-        Class::Nrt { priority: 4 },
+        fourth,
         Status::Ready,
         State::NRT_DEADLINE + 4,
     );
-    print(b"8 comes before the main task\n", s);
-    s = moved(s, 3, hard, Status::Zombie, 9);
-    print(b"3 goes from the middle to the zombies\n", s);
-    s = moved(s, 2, most, Status::Idle, 13);
-    print(b"2, the first, goes to idle\n", s);
-    s = moved(
+    s = step(
+        b"3 goes from the middle to the zombies\n",
+        s,
+        3,
+        hard,
+        Status::Zombie,
+        9,
+    );
+    s = step(
+        b"2, the first, goes to idle\n",
+        s,
+        2,
+        most,
+        Status::Idle,
+        13,
+    );
+    s = step(
+        b"6 waits no more\n",
         s,
         6,
-        Class::Nrt { priority: 3 },
+        third,
         Status::Ready,
         State::NRT_DEADLINE + 3,
     );
-    print(b"6 waits no more\n", s);
-    s = moved(s, 7, Class::Nrt { priority: 0 }, Status::Free, 0);
-    print(b"7, the only waiter, goes\n", s);
-    s = moved(s, 2, most, Status::Idle, 11);
-    print(b"2 goes before 4\n", s);
+    s = step(b"7, the only waiter, goes\n", s, 7, blank, Status::Free, 0);
+    step(b"2 goes before 4\n", s, 2, most, Status::Idle, 11);
 }
