@@ -32,7 +32,7 @@ fn task(name: &[u8], x: usize, t: Task) {
     show(name, with_task(hall(), x, t));
 }
 
-// The same with the share total that then is right, so that nothing else is broken.
+// The same with the share total of the changed tasks, so that the shares are not what breaks it.
 fn shared_task(name: &[u8], x: usize, t: Task, total: u32) {
     show(name, with_share(with_task(hall(), x, t), total));
 }
