@@ -1,4 +1,2 @@
--- What the tests of soundness decide.
-pub mod Clauses
+-- What the tests of tasks and shares are told.
 pub mod Task
-pub mod Semaphore

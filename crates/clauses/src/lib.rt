@@ -9,10 +9,8 @@ ghost use Rattle.kernel.specs.Sizes.{task-count, semaphore-count};
 ghost use Rattle.kernel.specs.Status.{READY, EXE, ready};
 ghost use Rattle.kernel.specs.Kernel.{Kernel, task, queue, hard, share, share-of};
 ghost use Rattle.kernel.specs.Seen.{bare, seen};
-ghost use Rattle.kernel.specs.Good.{NoLater, Fits, Timely, Names, GoodTask, GoodSemaphore, held-share};
-ghost use Rattle.clauses.specs.Clauses.{Runs, Shared, Clocked};
-ghost use Rattle.clauses.specs.Semaphore.{Counted};
-ghost use Rattle.clauses.specs.Task.{Kept, Suited, Ahead, InTime, Around, HardFits};
+ghost use Rattle.kernel.specs.Good.{NoLater, Fits, Timely, Names, MainOrSized, Suited, IdleAhead, InTime, Runs, Shared, Counted, Clocked, GoodTask, GoodSemaphore, held-share};
+ghost use Rattle.clauses.specs.Task.{Around, HardFits};
 use kernel::Class;
 use kernel::Semaphore;
 use kernel::SemaphoreNo;
@@ -85,8 +83,8 @@ fn exe_or_ready(n: usize) -> bool
 }
 
 // Whether task x is what its number asks: the main task for 0, one that keeps the sizes for others.
-fn kept(x: usize, class: Class, n: usize) -> bool
-    ensures { λ r. ⌜ ((r ≡ true) ↔ Kept x class n) ⌝ }
+fn main_or_sized(x: usize, class: Class, n: usize) -> bool
+    ensures { λ r. ⌜ ((r ≡ true) ↔ MainOrSized x class n) ⌝ }
 {
     if x != 0 {
         return fits(class);
@@ -133,8 +131,8 @@ fn suited(class: Class, n: usize) -> bool
 }
 
 // Whether an IDLE deadline is above the clock, if not stopped.
-fn ahead(stop: usize, n: usize, clock: u32, deadline: u32) -> bool
-    ensures { λ r. ⌜ ((r ≡ true) ↔ Ahead stop n clock deadline) ⌝ }
+fn idle_ahead(stop: usize, n: usize, clock: u32, deadline: u32) -> bool
+    ensures { λ r. ⌜ ((r ≡ true) ↔ IdleAhead stop n clock deadline) ⌝ }
 {
     if n != Status::IDLE {
         return true;
@@ -189,7 +187,7 @@ fn task_good(
     if !exe_stored(n, x, running) {
         return false;
     }
-    if !kept(x, class, n) {
+    if !main_or_sized(x, class, n) {
         return false;
     }
     if !timely(clock, class, n, a.deadline) {
@@ -198,7 +196,7 @@ fn task_good(
     if !suited(class, n) {
         return false;
     }
-    if !ahead(stop, n, clock, a.deadline) {
+    if !idle_ahead(stop, n, clock, a.deadline) {
         return false;
     }
     names(semaphores, status)

@@ -23,12 +23,12 @@ nrt-late clock (Nrt p) n d h used t = let e = t .1 used in omega arith
 module _ {k : Kernel} (good : Good k) (going : stop-number (k .stop) ≡ 0) where
   -- The main task is NRT.
   hard-other : (x : ℕ) → x < task-count → hard (task k x .class) ≡ true → x ≡ 0 → ⊥
-  hard-other x lx h e = false≢true (sym (ap hard (good .tasks x lx .main-class e)) ∙ h)
+  hard-other x lx h e = false≢true (sym (ap hard (good .tasks x lx .main-or-sized .main-class e)) ∙ h)
 
   before-lifetime : k .clock < lifetime
   before-lifetime =
-      let c = good .clock in
-      let ne : k .clock ≡ lifetime → ⊥ = λ e. let s = good .expired .0 e in omega arith in
+      let c = good .clocked .clock in
+      let ne : k .clock ≡ lifetime → ⊥ = λ e. let s = good .clocked .expired .0 e in omega arith in
       omega arith
 
   pub hard-before-nrt
@@ -45,6 +45,6 @@ module _ {k : Kernel} (good : Good k) (going : stop-number (k .stop) ≡ 0) wher
       omega (
         arith,
         before-lifetime,
-        hard-deadline (k .clock) (task k x .class) _ (task k x .deadline) hx (a .fits (hard-other x lx hx)) (a .timely),
+        hard-deadline (k .clock) (task k x .class) _ (task k x .deadline) hx (a .main-or-sized .fits (hard-other x lx hx)) (a .timely),
         nrt-late (k .clock) (task k y .class) _ (task k y .deadline) hy used (b .timely),
       )

@@ -62,15 +62,10 @@ module _ (n : ℕ) where
   main-good =
       record {
         exe = (λ e. refl, λ e. refl);
-        main-class = λ e. refl;
-        main-status = λ e. inl refl;
-        fits = λ ne. absurd (ne refl);
+        main-or-sized = record { main-class = λ e. refl; main-status = λ e. inl refl; fits = λ ne. absurd (ne refl) };
         timely = (λ e. absurd (omega arith), λ ne. refl);
-        free = λ e. absurd (omega arith);
-        hard-never-waits = λ e. absurd (false≢true e);
+        suited = record { free = λ e. absurd (omega arith); hard-never-waits = λ e. absurd (false≢true e); idle-hard = λ e. absurd (omega arith); zombie-hard = λ e. absurd (omega arith) };
         waits = tt;
-        idle-hard = λ e. absurd (omega arith);
-        zombie-hard = λ e. absurd (omega arith);
         idle-ahead = λ g e. absurd (omega arith);
       }
 
@@ -79,15 +74,10 @@ module _ (n : ℕ) where
   blank-good x =
       record {
         exe = (λ e. absurd (omega arith), λ e. absurd (omega arith));
-        main-class = λ e. absurd (omega arith);
-        main-status = λ e. absurd (omega arith);
-        fits = λ ne. omega arith;
+        main-or-sized = record { main-class = λ e. absurd (omega arith); main-status = λ e. absurd (omega arith); fits = λ ne. omega arith };
         timely = (λ e. refl, λ ne. absurd (ne refl));
-        free = λ e. refl;
-        hard-never-waits = λ e. absurd (false≢true e);
+        suited = record { free = λ e. refl; hard-never-waits = λ e. absurd (false≢true e); idle-hard = λ e. absurd (omega arith); zombie-hard = λ e. absurd (omega arith) };
         waits = tt;
-        idle-hard = λ e. absurd (omega arith);
-        zombie-hard = λ e. absurd (omega arith);
         idle-ahead = λ g e. absurd (omega arith);
       }
 
@@ -143,16 +133,12 @@ module _ (n : ℕ) where
       record {
         sized = record { tasks = refl; queues = refl; semaphores = refl; channels = refl; sessions = refl };
         tasks = λ x lx. task-good x;
-        running = omega arith;
-        earliest = tt;
+        runs = record { running = omega arith; earliest = tt; in-time = λ g e. absurd (false≢true e) };
         queues = queue-good;
-        share = refl;
-        share-fits = omega arith;
+        shared = record { share = refl; share-fits = omega arith };
         semaphores = λ s ls. semaphore-good s;
         channels = λ c lc. channel-good c;
-        clock = omega arith;
-        expired = (λ e. absurd (omega arith), λ e. absurd (omega arith));
-        in-time = λ g e. absurd (false≢true e);
+        clocked = record { clock = omega arith; expired = (λ e. absurd (omega arith), λ e. absurd (omega arith)) };
       }
 
 pub fresh-good : Good fresh

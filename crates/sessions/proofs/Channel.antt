@@ -23,8 +23,8 @@ no-latest (Buffer b) f = absurd (omega (arith, f b refl))
 
 no-session : {h : Channel} {m : ℕ} (z : Session) → KeepsSession h m z → h .buffers ≡ 0 → z ≡ Closed
 no-session Closed k e = refl
-no-session (Write b) k e = absurd (omega (arith, k .holds b (inl refl) .named))
-no-session (Reading b) k e = absurd (omega (arith, k .holds b (inr refl) .named))
+no-session (Write b) k e = absurd (omega (arith, k .good b (inl refl) .named))
+no-session (Reading b) k e = absurd (omega (arith, k .good b (inr refl) .named))
 
 -- Of n sessions each writer is alone with its buffer; no buffer has two writers; no buffer is written and read.
 abbrev EachAlone : ℕ → (ℕ → Session) → Type 0
@@ -60,7 +60,7 @@ module _ (k : Kernel) (c : ℕ) where
             record { buffers = none; latest = no-latest _ (rw none at (h .latest)); sessions = λ t l. no-session _ (f t l .itself) none };
         used = λ l. record { size = h .sizes .longest; fewest = h .sizes .fewest l; most = h .sizes .most };
         latest = h .latest;
-        sessions = λ t b l o. let r = f t l .itself .holds b o in record { not-free = r .not-free; not-zombie = r .not-zombie; named = r .named };
+        sessions = λ t b l. f t l .itself .good b;
         one-writer = one-writer task-count (session k c) alone;
         not-latest = λ t b l. f t l .itself .not-latest b;
         not-read = not-read task-count (session k c) alone;
@@ -85,7 +85,7 @@ module _ (k : Kernel) (c : ℕ) where
   sessions-kept g t l =
       record {
         itself = record {
-          holds = λ b o. let r = g .sessions t b l o in record { not-free = r .not-free; not-zombie = r .not-zombie; named = r .named };
+          good = λ b. g .sessions t b l;
           not-latest = λ b. g .not-latest t b l;
           put-first = λ b. g .put-first t b l;
         };

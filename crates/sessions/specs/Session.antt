@@ -9,19 +9,13 @@ use Rattle.kernel.specs.declared.Session.{Session}
 use Rattle.kernel.specs.declared.Session.the-variants.{Closed, Write, Reading}
 use Rattle.kernel.specs.declared.Slot.{Slot}
 use Rattle.kernel.specs.Sizes.{task-count}
-use Rattle.kernel.specs.Status.{FREE, ZOMBIE, status-number}
+use Rattle.kernel.specs.Status.{status-number}
 use Rattle.kernel.specs.Kernel.{Kernel, task, channel, slot, slot-number, session}
-use Rattle.kernel.specs.Good.{Opens}
+use Rattle.kernel.specs.Good.{Opens, GoodSession}
 
--- An open session of a task whose status has the number n: the task is neither FREE nor ZOMBIE, and buffer b is one of the channel's.
-pub record Holds (n b buffers : ℕ) : Type 0 where
-  pub not-free : n ≡ FREE → ⊥
-  pub not-zombie : n ≡ ZOMBIE → ⊥
-  pub named : b < buffers
-
--- A session of such a task on channel h, by itself: a writer's buffer is not the latest, and nothing is read before the first put.
+-- A session on channel h of a task whose status has the number n, by itself: it is good where it is open, a writer's buffer is not the latest, and nothing is read before the first put.
 pub record KeepsSession (h : Channel) (n : ℕ) (z : Session) : Type 0 where
-  pub holds : (b : ℕ) → Opens z b → Holds n b (h .buffers)
+  pub good : (b : ℕ) → Opens z b → GoodSession n b (h .buffers)
   pub not-latest : (b : ℕ) → z ≡ Write b → h .latest ≡ Buffer b → ⊥
   pub put-first : (b : ℕ) → z ≡ Reading b → h .latest ≡ Nothing → ⊥
 
@@ -30,7 +24,7 @@ abbrev pub Alone : ℕ → (ℕ → Session) → ℕ → ℕ → Type 0
 Alone n z t b = (u : ℕ) → u < n → (u ≡ t → ⊥) → Opens (z u) b → ⊥
 
 -- The session of task t, one of n, whose status has the number m: it keeps the rules by itself, and where it writes, no other names its buffer.
-pub record Kept (n : ℕ) (h : Channel) (m : ℕ) (z : ℕ → Session) (t : ℕ) : Type 0 where
+pub record KeptSession (n : ℕ) (h : Channel) (m : ℕ) (z : ℕ → Session) (t : ℕ) : Type 0 where
   pub itself : KeepsSession h m (z t)
   pub alone : (b : ℕ) → z t ≡ Write b → Alone n z t b
 
@@ -40,4 +34,4 @@ session-at sessions c t = getD sessions (slot-number c t) (slot Closed) .session
 
 -- The session of task t on channel c of a kernel.
 abbrev pub KeptIn : Kernel → ℕ → ℕ → Type 0
-KeptIn k c t = Kept task-count (channel k c) (status-number (task k t .status)) (session k c) t
+KeptIn k c t = KeptSession task-count (channel k c) (status-number (task k t .status)) (session k c) t

@@ -6,10 +6,10 @@ ghost use Prim.Native.Nat.{ℕ, _<_};
 ghost use Rattle.kernel.specs.declared.Latest.the-variants.{Nothing, Buffer};
 ghost use Rattle.kernel.specs.Sizes.{task-count, channel-count};
 ghost use Rattle.kernel.specs.Status.{status-number};
-ghost use Rattle.kernel.specs.Good.{Opens, GoodChannel};
+ghost use Rattle.kernel.specs.Good.{Opens, GoodSession, GoodChannel};
 ghost use Rattle.kernel.specs.Seen.{seen};
 ghost use Rattle.sessions.specs.Channel.{KeepsSizes, NamesLatest, KeepsChannel};
-ghost use Rattle.sessions.specs.Session.{Holds, KeepsSession, Alone, KeptIn, session-at};
+ghost use Rattle.sessions.specs.Session.{KeepsSession, Alone, KeptIn, session-at};
 use kernel::Channel;
 use kernel::Latest;
 use kernel::Session;
@@ -55,8 +55,8 @@ fn keeps_channel(channel: Channel) -> bool
 }
 
 // Whether a task of that status may have a session open on buffer b of so many: it is neither FREE nor ZOMBIE.
-fn holds(status: Status, b: u8, buffers: u8) -> bool
-    ensures { λ r. ⌜ ((r ≡ true) ↔ Holds (status-number status) b buffers) ⌝ }
+fn may_hold(status: Status, b: u8, buffers: u8) -> bool
+    ensures { λ r. ⌜ ((r ≡ true) ↔ GoodSession (status-number status) b buffers) ⌝ }
 {
     let n = kernel::status_number(status);
     if n == Status::FREE {
@@ -107,13 +107,13 @@ fn keeps_session(session: Session, status: Status, channel: Channel) -> bool
     match session {
         Session::Closed => true,
         Session::Write(b) => {
-            if !holds(status, b, channel.buffers) {
+            if !may_hold(status, b, channel.buffers) {
                 return false;
             }
             not_latest(latest, b)
         }
         Session::Reading(b) => {
-            if !holds(status, b, channel.buffers) {
+            if !may_hold(status, b, channel.buffers) {
                 return false;
             }
             put_first(latest)

@@ -14,10 +14,9 @@ use Rattle.kernel.specs.Sizes.{task-count, semaphore-count, channel-count}
 use Rattle.kernel.specs.Status.{queue-count}
 use Rattle.kernel.specs.Kernel.{task, queue}
 use Rattle.kernel.specs.Seen.{next-of, previous-of, head-of, seen}
-use Rattle.kernel.specs.Good.{GoodTask, GoodSemaphore, GoodChannel, place, deadline-of}
+use Rattle.kernel.specs.Good.{GoodTask, GoodSemaphore, GoodChannel, Runs, Shared, Clocked, place, deadline-of}
 use Rattle.kernel.specs.Sound.{Filed, Sound}
 use Rattle.kernel.proofs.Decided.{means}
-use Rattle.clauses.specs.Clauses.{Runs, Shared, Clocked}
 use Rattle.soundness.specs.Tests.{GoodQueue, Loose, FiledTask}
 
 -- The tables have the sizes that their types give them.
@@ -72,16 +71,12 @@ module _ (s : State) where
               sessions = long .sessions;
             };
             tasks = p .tasks;
-            running = p .runs .running;
-            earliest = p .runs .earliest;
+            runs = p .runs;
             queues = listed (p .queues) (p .filed);
-            share = p .shared .share;
-            share-fits = p .shared .share-fits;
+            shared = p .shared;
             semaphores = p .semaphores;
             channels = p .channels;
-            clock = p .clocked .clock;
-            expired = p .clocked .expired;
-            in-time = p .runs .in-time;
+            clocked = p .clocked;
           };
         },
     λ g.
@@ -94,10 +89,10 @@ module _ (s : State) where
                 loose = λ h. record { next = g .filed .alone-next x l h; previous = g .filed .alone-previous x l h };
               };
           tasks = k .tasks;
-          runs = record { running = k .running; earliest = k .earliest; in-time = k .in-time };
-          shared = record { share = k .share; share-fits = k .share-fits };
+          runs = k .runs;
+          shared = k .shared;
           semaphores = k .semaphores;
-          clocked = record { clock = k .clock; expired = k .expired };
+          clocked = k .clocked;
           channels = k .channels;
         },
   )

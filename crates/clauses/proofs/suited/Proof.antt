@@ -7,7 +7,7 @@ use borrow.Author.Needs.{needs}
 use Rattle.kernel.specs.declared.Class.{Class}
 use Rattle.kernel.specs.Status.{FREE, WAIT}
 use Rattle.kernel.specs.Kernel.{hard}
-use Rattle.clauses.specs.Task.{Suited}
+use Rattle.kernel.specs.Good.{Suited}
 use Rattle.kernel.proofs.Decided.{yes, same, negated, means}
 use Rattle.clauses.proofs.suited.Statement.{statement}
 use Rattle.clauses.proofs.suited.Tie as tie

@@ -9,10 +9,10 @@ not-stored c k e =
     let n = c .before .before .status-number .ensures in
     no (λ g. refused (c .before .exe-stored .ensures) (c .if1 .taken) (rw (n, ← e .running) (g .exe)))
 
-not-kept : tie.Need-returns-2
-not-kept c k e =
+not-sized : tie.Need-returns-2
+not-sized c k e =
     let n = c .before .before .before .before .status-number .ensures in
-    no (λ g. refused (c .before .kept .ensures) (c .if2 .taken) (rw n (record { main-class = g .main-class; main-status = g .main-status; fits = g .fits })))
+    no (λ g. refused (c .before .main-or-sized .ensures) (c .if2 .taken) (rw n (g .main-or-sized)))
 
 late : tie.Need-returns-3
 late c k e =
@@ -22,38 +22,31 @@ late c k e =
 not-suited : tie.Need-returns-4
 not-suited c k e =
     let n = c .before .before .before .before .before .before .before .before .status-number .ensures in
-    no (λ g. refused (c .before .suited .ensures) (c .if4 .taken) (rw n (record { free = g .free; hard-never-waits = g .hard-never-waits; idle-hard = g .idle-hard; zombie-hard = g .zombie-hard })))
+    no (λ g. refused (c .before .suited .ensures) (c .if4 .taken) (rw n (g .suited)))
 
 behind : tie.Need-returns-5
 behind c k e =
     let n = c .before .before .before .before .before .before .before .before .before .before .status-number .ensures in
-    no (λ g. refused (c .before .ahead .ensures) (c .if5 .taken) (rw (n, ← e .stop, ← e .clock) (g .idle-ahead)))
+    no (λ g. refused (c .before .idle-ahead .ensures) (c .if5 .taken) (rw (n, ← e .stop, ← e .clock) (g .idle-ahead)))
 
 good : tie.Need-returns-6
 good c k e =
     let ahead = c .before .before in
-    let suited = ahead .before .before in
-    let timely = suited .before .before in
-    let kept = timely .before .before in
-    let exe = kept .before .before in
+    let suits = ahead .before .before in
+    let timely = suits .before .before in
+    let sized = timely .before .before in
+    let exe = sized .before .before in
     let n = exe .before .status-number .ensures in
-    let main = rw n at (passed (kept .kept .ensures) (timely .before .if2 .left)) in
-    let suits = rw n at (passed (suited .suited .ensures) (ahead .before .if4 .left)) in
     means
     (c .names .ensures k (e .semaphores))
     (λ names.
     record {
-      exe = rw (← n, e .running) (passed (exe .exe-stored .ensures) (kept .before .if1 .left));
-      main-class = main .main-class;
-      main-status = main .main-status;
-      fits = main .fits;
-      timely = rw (← n, e .clock) (passed (timely .timely .ensures) (suited .before .if3 .left));
-      free = suits .free;
-      hard-never-waits = suits .hard-never-waits;
+      exe = rw (← n, e .running) (passed (exe .exe-stored .ensures) (sized .before .if1 .left));
+      main-or-sized = rw n at (passed (sized .main-or-sized .ensures) (timely .before .if2 .left));
+      timely = rw (← n, e .clock) (passed (timely .timely .ensures) (suits .before .if3 .left));
+      suited = rw n at (passed (suits .suited .ensures) (ahead .before .if4 .left));
       waits = names;
-      idle-hard = suits .idle-hard;
-      zombie-hard = suits .zombie-hard;
-      idle-ahead = rw (← n, e .stop, e .clock) (passed (ahead .ahead .ensures) (c .before .if5 .left));
+      idle-ahead = rw (← n, e .stop, e .clock) (passed (ahead .idle-ahead .ensures) (c .before .if5 .left));
     })
     (λ g. g .waits)
 
@@ -65,7 +58,7 @@ task-good-spec =
     (λ c κs. search needs)
     not-stored
     (λ c κs. search needs)
-    not-kept
+    not-sized
     (λ c κs. search needs)
     late
     (λ c κs. search needs)

@@ -8,11 +8,11 @@ use Rattle.sessions.proofs.keeps_session.Tie as tie
 
 write-wrong : tie.Need-returns
 write-wrong c =
-    no (λ k. refused (c .before .holds .ensures) (c .if1 .taken) (k .holds _ (inl (c .before .before .before .session .given .1))))
+    no (λ k. refused (c .before .may-hold .ensures) (c .if1 .taken) (k .good _ (inl (c .before .before .before .session .given .1))))
 
 reading-wrong : tie.Need-returns-2
 reading-wrong c =
-    no (λ k. refused (c .before .holds2 .ensures) (c .if2 .taken) (k .holds _ (inr (c .before .before .before .session2 .given .1))))
+    no (λ k. refused (c .before .may-hold2 .ensures) (c .if2 .taken) (k .good _ (inr (c .before .before .before .session2 .given .1))))
 
 closed : tie.Need-returns-3
 closed c = yes (keeps-closed (c .enum-told .given .1))
@@ -20,13 +20,13 @@ closed c = yes (keeps-closed (c .enum-told .given .1))
 write : tie.Need-returns-4
 write c =
     let e = c .before .before .before .before .session .given .1 in
-    let right = passed (c .before .before .holds .ensures) (c .before .if1 .left) in
+    let right = passed (c .before .before .may-hold .ensures) (c .before .if1 .left) in
     (λ h. keeps-write e right (c .not-latest .ensures .0 h), λ k. c .not-latest .ensures .1 (k .not-latest _ e))
 
 reading : tie.Need-returns-5
 reading c =
     let e = c .before .before .before .before .session2 .given .1 in
-    let right = passed (c .before .before .holds2 .ensures) (c .before .if2 .left) in
+    let right = passed (c .before .before .may-hold2 .ensures) (c .before .if2 .left) in
     (λ h. keeps-reading e right (c .put-first .ensures .0 h), λ k. c .put-first .ensures .1 (k .put-first _ e))
 
 pub keeps-session-spec : {M : Type 1} → statement M

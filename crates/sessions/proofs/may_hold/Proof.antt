@@ -3,8 +3,8 @@ use mathlib.Core.Path.{sym, _∙_}
 use borrow.Author.Needs.{needs}
 use borrow.Author.Tests.{ltb-true, lt-ltb}
 use Rattle.kernel.proofs.Decided.{no}
-use Rattle.sessions.proofs.holds.Statement.{statement}
-use Rattle.sessions.proofs.holds.Tie as tie
+use Rattle.sessions.proofs.may_hold.Statement.{statement}
+use Rattle.sessions.proofs.may_hold.Tie as tie
 
 free : tie.Need-returns
 free c = no (λ k. k .not-free (sym (c .before .status-number .ensures) ∙ c .if1 .taken))
@@ -17,5 +17,5 @@ returns c =
     let n = c .before .before .status-number .ensures in
     (λ h. record { not-free = λ e. c .before .if1 .left (n ∙ e); not-zombie = λ e. c .if2 .left (n ∙ e); named = ltb-true _ _ h }, λ k. lt-ltb _ _ (k .named))
 
-pub holds-spec : {M : Type 1} → statement M
-holds-spec = tie.close (tie.spec (λ c κs. search needs) free zombie returns)
+pub may-hold-spec : {M : Type 1} → statement M
+may-hold-spec = tie.close (tie.spec (λ c κs. search needs) free zombie returns)

@@ -1,8 +1,8 @@
 -- Task 0 is the main task, others keep the sizes. Assumes nothing.
 use borrow.Author.Needs.{needs}
 use Rattle.kernel.proofs.Decided.{no, refused, passed, means}
-use Rattle.clauses.proofs.kept.Statement.{statement}
-use Rattle.clauses.proofs.kept.Tie as tie
+use Rattle.clauses.proofs.main_or_sized.Statement.{statement}
+use Rattle.clauses.proofs.main_or_sized.Tie as tie
 
 other : tie.Need-returns
 other c =
@@ -20,5 +20,5 @@ main c =
     (λ f. record { main-class = λ e. passed (c .before .before .is-nrt .ensures) (c .before .if2 .left); main-status = λ e. f; fits = λ h. absurd (h x) })
     (λ k. k .main-status x)
 
-pub kept-spec : {M : Type 1} → statement M
-kept-spec = tie.close (tie.spec (λ c κs. search needs) other (λ c κs. search needs) not-main (λ c κs. search needs) main)
+pub main-or-sized-spec : {M : Type 1} → statement M
+main-or-sized-spec = tie.close (tie.spec (λ c κs. search needs) other (λ c κs. search needs) not-main (λ c κs. search needs) main)
