@@ -1,5 +1,5 @@
 -- The task that a queue's head leads to is its first, whatever the links are. Assumes nothing.
-use mathlib.Core.Path.{_≡_, sym, ap, _∙_}
+use mathlib.Core.Path.{_≡_, refl, sym, ap, _∙_}
 use mathlib.Core.List.{List, _∷_}
 use Prim.Native.Nat.{ℕ, _<_}
 use lib.ListN.{length}
@@ -18,6 +18,7 @@ first-is s q e h =
     let next = next-of (s .tasks) in
     let w = queue-seen s q e h in
     record {
+      is = refl;
       some = λ l. rw w (let t = walk-some task-count next _ head l in t ∙ ap (λ (xs : List ℕ). target task-count head ∷ rest xs) (sym t));
       none = λ l. rw w (walk-none task-count next task-count head l);
     }

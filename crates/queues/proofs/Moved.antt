@@ -30,9 +30,9 @@ use Rattle.kernel.proofs.Moves as Moves
 use Rattle.queues.specs.Links.{Linked, Place, passes, with-table, relinked, taken-out, filed-in}
 use Rattle.queues.specs.Shows.{Shows}
 use Rattle.queues.proofs.Links.{relinks, relinked-bare, relinked-head, other-heads, relinked-long, relinked-rest}
-use Rattle.queues.proofs.Out.{Movable, next-besides, previous-besides, written, records-with, Out, as-many, out}
+use Rattle.queues.proofs.Out.{MovableIn, next-besides, previous-besides, written, records-with, Out, as-many, out}
 
-module _ {s : State} {i : ℕ} (h : Movable s i) where
+module _ {s : State} {i : ℕ} (h : MovableIn s i) where
   abbrev t : State
   t = taken-out s i
 
@@ -54,9 +54,6 @@ module _ {s : State} {i : ℕ} (h : Movable s i) where
 
   pub linked : (q : ℕ) → q < queue-count → Linked t q
   linked q l = rw (outside q l) (o .filed .linked q l)
-
-  free : queue-count ≤ loosened queue-count i (place (seen s)) i
-  free = rw (loose-here queue-count i (place (seen s))) (omega arith)
 
   module _ (b : Bare) where
     abbrev k : Kernel
@@ -84,7 +81,7 @@ module _ {s : State} {i : ℕ} (h : Movable s i) where
 
     in-none : queue-count ≤ q → Holds (stored-with end end) (place k) (queue k)
     in-none l =
-        stored (o .filed) (Moves.out-queues m) (h .is-task) places free (rw (Moves.moved-place m b) l)
+        stored (o .filed) (Moves.out-queues m) (h .is-task) places (loose-here queue-count i (place (seen s))) (rw (Moves.moved-place m b) l)
         (λ x ne. (next-besides (t .tasks) i (clothed end end) x ne, previous-besides (t .tasks) i (clothed end end) x ne))
         (ap (λ (c : Task). c .next) (own end end)) (ap (λ (c : Task). c .previous) (own end end)) (λ p. refl)
         (λ p lp. Moves.kept-queue m b p lp (λ e. omega arith))
@@ -97,11 +94,11 @@ module _ {s : State} {i : ℕ} (h : Movable s i) where
         let eb : before ≡ finish end (w .front) = rw (outside q l, same-passes) at (g .before-is) in
         let ea : after ≡ start end (w .back) = rw (outside q l, same-passes) at (g .after-is) in
         let r = relinks u q before after (pos i) (pos i) i long in
-        let away : Absent i (w .front ++ w .back) = rw (w .less) at (absent i (Moves.out-queues m q l) (λ e. let f = free in omega arith)) in
+        let away : Absent i (w .front ++ w .back) = rw (w .less) at (absent i (Moves.out-queues m q l) (λ e. let f = loose-here queue-count i (place (seen s)) in omega arith)) in
         let kept = kept-links (relinks u q before after (pos i) (pos i) task-count long) (w .front) (w .back) eb ea i (λ e. let z = h .is-task in omega arith)
         (all-left _ (w .front) (w .back) away) (all-right _ (w .front) (w .back) away) in
         let stands : place k i ≡ q = Moves.moved-place m b in
-        joined (o .filed) (Moves.out-queues m) (h .is-task) places (passes s (b .deadline)) free (rw stands l) (rw stands (record { before-is = eb; after-is = ea }))
+        joined (o .filed) (Moves.out-queues m) (h .is-task) places (passes s (b .deadline)) (loose-here queue-count i (place (seen s))) (rw stands l) (rw stands (record { before-is = eb; after-is = ea }))
         (record {
           sides = record {
             next-turned = r .next-turned;

@@ -25,7 +25,7 @@ use Rattle.queues.specs.Shows.{Kept}
 use Rattle.queues.proofs.Links.{relinks, relinked-bare, relinked-head, other-heads, relinked-long, relinked-rest}
 
 -- What a move may count on: the queues are in order, i is a task, and the tables have the sizes that their types give them.
-pub record Movable (s : State) (i : ℕ) : Type 0 where
+pub record MovableIn (s : State) (i : ℕ) : Type 0 where
   pub kept : Kept s
   pub is-task : i < task-count
   pub tasks : length (s .tasks) ≡ task-count
@@ -61,7 +61,7 @@ pub record Out (s : State) (i : ℕ) (t : State) : Type 0 where
 pub as-many : (s t : State) → map bare (t .tasks) ≡ map bare (s .tasks) → length (s .tasks) ≡ task-count → length (t .tasks) ≡ task-count
 as-many s t e l = sym (length-map (t .tasks) bare) ∙ ap length e ∙ length-map (s .tasks) bare ∙ l
 
-module _ {s : State} {i : ℕ} (m : Movable s i) where
+module _ {s : State} {i : ℕ} (m : MovableIn s i) where
   abbrev a : Task
   a = record-at (s .tasks) i
 
@@ -70,9 +70,6 @@ module _ {s : State} {i : ℕ} (m : Movable s i) where
 
   stood : place (seen s) i ≡ p
   stood = ap (λ (b : Bare). queue-of (b .status)) (task-seen s i)
-
-  loose : queue-count ≤ loosened queue-count i (place (seen s)) i
-  loose = rw (loose-here queue-count i (place (seen s))) (omega arith)
 
   out-of-one : p < queue-count → Out s i (with-record (relinked s p (a .previous) (a .next) (a .next) (a .previous)) i (a .class) (a .status) (a .deadline) end end)
   out-of-one l =
@@ -83,7 +80,7 @@ module _ {s : State} {i : ℕ} (m : Movable s i) where
       let w = written (t .tasks) i b (omega (arith, as-many s t e (m .tasks), m .is-task)) in
       record {
         filed =
-            left (m .kept .filed) (m .kept .queues) (m .is-task) (loose-there queue-count i (place (seen s))) (rw stood l) loose
+            left (m .kept .filed) (m .kept .queues) (m .is-task) (loose-there queue-count i (place (seen s))) (rw stood l) (loose-here queue-count i (place (seen s)))
             (record {
               sides = record {
                 next-turned = λ x lx ne z. next-besides (t .tasks) i b x ne ∙ r .next-turned x lx ne z;
@@ -108,7 +105,7 @@ module _ {s : State} {i : ℕ} (m : Movable s i) where
       let free : queue-count ≤ place (seen s) i = rw stood l in
       record {
         filed =
-            stored (m .kept .filed) (m .kept .queues) (m .is-task) (loose-there queue-count i (place (seen s))) free loose (λ x ne. (refl, refl))
+            stored (m .kept .filed) (m .kept .queues) (m .is-task) (loose-there queue-count i (place (seen s))) free (loose-here queue-count i (place (seen s))) (λ x ne. (refl, refl))
             (m .kept .filed .alone-next i (m .is-task) free) (m .kept .filed .alone-previous i (m .is-task) free) (λ q. refl)
             (λ q lq. remove-absent i (queue (seen s) q) (absent i (m .kept .queues q lq) (λ e. omega arith)));
         records = refl;

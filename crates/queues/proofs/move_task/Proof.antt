@@ -2,12 +2,12 @@
 use borrow.Author.Needs.{needs}
 use Rattle.kernel.proofs.Seen.{held-length}
 use Rattle.queues.specs.Links.{bare-of}
-use Rattle.queues.proofs.Out.{Movable}
+use Rattle.queues.proofs.Out.{MovableIn}
 use Rattle.queues.proofs.Moved.{linked, moved}
 use Rattle.queues.proofs.move_task.Statement.{statement}
 use Rattle.queues.proofs.move_task.Tie as tie
 
-movable : (c : tie.Start) → Movable (c .args .s) (c .args .i)
+movable : (c : tie.Start) → MovableIn (c .args .s) (c .args .i)
 movable c = record { kept = c .pre .0; is-task = c .pre .1; tasks = search (held-length); heads = search needs }
 
 chains : tie.Need-file-requires
