@@ -35,43 +35,6 @@ record-kept ts x a y ne = go (ℕ-discrete y x)
     go (yes e) = let h : y < length ts → ⊥ = ne e in ap (λ (l : List Task). record-at l y) (set-out ts x a (omega arith))
     go (no e) = getD-set-other ts x y a past e
 
-module _ (s : State) (x : ℕ) (link : ℤ) where
-  next-written : x < length (s .tasks) → next-of (with-next s x link .tasks) x ≡ link
-  unfolding with-next
-  next-written h = ap (λ (a : Task). a .next) (getD-set-same (s .tasks) x _ past h)
-
-  next-unwritten : (y : ℕ) → (y ≡ x → y < length (s .tasks) → ⊥) → next-of (with-next s x link .tasks) y ≡ next-of (s .tasks) y
-  unfolding with-next
-  next-unwritten y ne = ap (λ (a : Task). a .next) (record-kept (s .tasks) x _ y ne)
-
-  previous-besides : (y : ℕ) → previous-of (with-next s x link .tasks) y ≡ previous-of (s .tasks) y
-  unfolding with-next
-  previous-besides y = field-kept (λ (a : Task). a .previous) (s .tasks) x _ y refl
-
-  previous-written : x < length (s .tasks) → previous-of (with-previous s x link .tasks) x ≡ link
-  unfolding with-previous
-  previous-written h = ap (λ (a : Task). a .previous) (getD-set-same (s .tasks) x _ past h)
-
-  previous-unwritten : (y : ℕ) → (y ≡ x → y < length (s .tasks) → ⊥) → previous-of (with-previous s x link .tasks) y ≡ previous-of (s .tasks) y
-  unfolding with-previous
-  previous-unwritten y ne = ap (λ (a : Task). a .previous) (record-kept (s .tasks) x _ y ne)
-
-  next-besides : (y : ℕ) → next-of (with-previous s x link .tasks) y ≡ next-of (s .tasks) y
-  unfolding with-previous
-  next-besides y = field-kept (λ (a : Task). a .next) (s .tasks) x _ y refl
-
-  bare-next : map bare (with-next s x link .tasks) ≡ map bare (s .tasks)
-  unfolding with-next
-  bare-next = map-set-same bare (s .tasks) x _ past refl
-
-  bare-previous : map bare (with-previous s x link .tasks) ≡ map bare (s .tasks)
-  unfolding with-previous
-  bare-previous = map-set-same bare (s .tasks) x _ past refl
-
-  long-previous : length (with-previous s x link .tasks) ≡ length (s .tasks)
-  unfolding with-previous
-  long-previous = length-set (s .tasks) x _
-
 -- A link that leads to task x is the link to x.
 led : (x : ℕ) (link : ℤ) → x < task-count → x ≡ target task-count link → pos x ≡ link
 led x link l e = ap pos e ∙ sym (leads task-count link (omega arith))
@@ -82,21 +45,29 @@ module _ (s : State) (q : ℕ) (before after v w : ℤ) where
 
   -- The neighbours are turned, and nothing else.
   pub relinks : (i : ℕ) → length (s .tasks) ≡ task-count → Relinked task-count i before after v w (next-of (s .tasks)) (previous-of (s .tasks)) (next-of (turned .tasks)) (previous-of (turned .tasks))
-  unfolding relinked
+  unfolding relinked with-next with-previous
   relinks i long =
-      let t = with-previous s (target task-count after) w in
+      let ts = s .tasks in
       let x = target task-count before in
       let y = target task-count after in
+      let a : Task = let c = record-at ts y in record { class = c .class; status = c .status; deadline = c .deadline; next = c .next; previous = w } in
+      let us = set ts y a in
+      let b : Task = let c = record-at us x in record { class = c .class; status = c .status; deadline = c .deadline; next = v; previous = c .previous } in
+      let long-us : length us ≡ task-count = length-set ts y a ∙ long in
       record {
-        next-turned = λ z l ne e. let h : x ≡ z = ap (target task-count) (sym e) in rw h (next-written t z v (omega (arith, long-previous s y w)));
-        next-kept = λ z ne e. next-unwritten t x v z (λ h l. e (led z before (omega (arith, long-previous s y w)) h)) ∙ next-besides s y w z;
-        previous-turned = λ z l ne e. previous-besides t x v z ∙ (let h : y ≡ z = ap (target task-count) (sym e) in rw h (previous-written s z w (omega arith)));
-        previous-kept = λ z ne e. previous-besides t x v z ∙ previous-unwritten s y w z (λ h l. e (led z after (omega arith) h));
+        next-turned = λ z l ne e. let h : x ≡ z = ap (target task-count) (sym e) in rw h (ap (λ (c : Task). c .next) (getD-set-same us z _ past (omega arith)));
+        next-kept = λ z ne e.
+          ap (λ (c : Task). c .next) (record-kept us x b z (λ h l. e (led z before (omega arith) h))) ∙ field-kept (λ (c : Task). c .next) ts y a z refl;
+        previous-turned = λ z l ne e.
+          field-kept (λ (c : Task). c .previous) us x b z refl
+          ∙ (let h : y ≡ z = ap (target task-count) (sym e) in rw h (ap (λ (c : Task). c .previous) (getD-set-same ts z _ past (omega arith))));
+        previous-kept = λ z ne e.
+          field-kept (λ (c : Task). c .previous) us x b z refl ∙ ap (λ (c : Task). c .previous) (record-kept ts y a z (λ h l. e (led z after (omega arith) h)))
       }
 
   pub relinked-bare : map bare (turned .tasks) ≡ map bare (s .tasks)
-  unfolding relinked
-  relinked-bare = bare-next (with-previous s (target task-count after) w) (target task-count before) v ∙ bare-previous s (target task-count after) w
+  unfolding relinked with-next with-previous
+  relinked-bare = map-set-same bare _ (target task-count before) _ past refl ∙ map-set-same bare (s .tasks) (target task-count after) _ past refl
 
   -- The head of queue q is turned where nothing stands before the place.
   pub relinked-head : q < length (s .heads) → head-of (turned .heads) q ≡ new-head task-count before (head-of (s .heads) q) v
