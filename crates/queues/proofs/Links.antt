@@ -43,31 +43,42 @@ module _ (s : State) (q : ℕ) (before after v w : ℤ) where
   abbrev turned : State
   turned = relinked s q before after v w
 
+  -- The tasks on both sides, if there are any: first the one after is written, then the one before.
+  abbrev x : ℕ
+  x = target task-count before
+
+  abbrev y : ℕ
+  y = target task-count after
+
+  abbrev a : Task
+  a = let c = record-at (s .tasks) y in record { class = c .class; status = c .status; deadline = c .deadline; next = c .next; previous = w }
+
+  abbrev us : List Task
+  us = set (s .tasks) y a
+
+  abbrev b : Task
+  b = let c = record-at us x in record { class = c .class; status = c .status; deadline = c .deadline; next = v; previous = c .previous }
+
   -- The neighbours are turned, and nothing else.
   pub relinks : (i : ℕ) → length (s .tasks) ≡ task-count → Relinked task-count i before after v w (next-of (s .tasks)) (previous-of (s .tasks)) (next-of (turned .tasks)) (previous-of (turned .tasks))
   unfolding relinked with-next with-previous
   relinks i long =
       let ts = s .tasks in
-      let x = target task-count before in
-      let y = target task-count after in
-      let a : Task = let c = record-at ts y in record { class = c .class; status = c .status; deadline = c .deadline; next = c .next; previous = w } in
-      let us = set ts y a in
-      let b : Task = let c = record-at us x in record { class = c .class; status = c .status; deadline = c .deadline; next = v; previous = c .previous } in
       let long-us : length us ≡ task-count = length-set ts y a ∙ long in
       record {
         next-turned = λ z l ne e. let h : x ≡ z = ap (target task-count) (sym e) in rw h (ap (λ (c : Task). c .next) (getD-set-same us z _ past (omega arith)));
         next-kept = λ z ne e.
-          ap (λ (c : Task). c .next) (record-kept us x b z (λ h l. e (led z before (omega arith) h))) ∙ field-kept (λ (c : Task). c .next) ts y a z refl;
+            ap (λ (c : Task). c .next) (record-kept us x b z (λ h l. e (led z before (omega arith) h))) ∙ field-kept (λ (c : Task). c .next) ts y a z refl;
         previous-turned = λ z l ne e.
-          field-kept (λ (c : Task). c .previous) us x b z refl
-          ∙ (let h : y ≡ z = ap (target task-count) (sym e) in rw h (ap (λ (c : Task). c .previous) (getD-set-same ts z _ past (omega arith))));
+            field-kept (λ (c : Task). c .previous) us x b z refl
+            ∙ (let h : y ≡ z = ap (target task-count) (sym e) in rw h (ap (λ (c : Task). c .previous) (getD-set-same ts z _ past (omega arith))));
         previous-kept = λ z ne e.
-          field-kept (λ (c : Task). c .previous) us x b z refl ∙ ap (λ (c : Task). c .previous) (record-kept ts y a z (λ h l. e (led z after (omega arith) h)))
+            field-kept (λ (c : Task). c .previous) us x b z refl ∙ ap (λ (c : Task). c .previous) (record-kept ts y a z (λ h l. e (led z after (omega arith) h)));
       }
 
   pub relinked-bare : map bare (turned .tasks) ≡ map bare (s .tasks)
   unfolding relinked with-next with-previous
-  relinked-bare = map-set-same bare _ (target task-count before) _ past refl ∙ map-set-same bare (s .tasks) (target task-count after) _ past refl
+  relinked-bare = map-set-same bare us x b past refl ∙ map-set-same bare (s .tasks) y a past refl
 
   -- The head of queue q is turned where nothing stands before the place.
   pub relinked-head : q < length (s .heads) → head-of (turned .heads) q ≡ new-head task-count before (head-of (s .heads) q) v
