@@ -22,7 +22,7 @@ use Rattle.clauses.specs.Task.{HardFits}
 pub hard-fits : {k : Kernel} {x : ℕ} {a : Bare} → GoodTask k x a → HardFits (a .class)
 hard-fits g h = g .main-or-sized .fits (λ e. false≢true (sym (ap hard (g .main-or-sized .main-class e)) ∙ h))
 
-share-most : (class : Class) → HardFits class → share-of class ≤ whole
+pub share-most : (class : Class) → HardFits class → share-of class ≤ whole
 share-most (Hard p c) f = let h = f refl in share-least p c whole (h .0) (omega arith)
 share-most (Nrt p) f = omega arith
 

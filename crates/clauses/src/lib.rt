@@ -30,7 +30,7 @@ fn is_nrt(class: Class, priority: u8) -> bool
 }
 
 // Whether a class is HARD.
-fn is_hard(class: Class) -> bool
+pub fn is_hard(class: Class) -> bool
     ensures { λ r. ⌜ r ≡ hard class ⌝ }
 {
     match class {
@@ -268,7 +268,7 @@ pub fn running_good(s: State) -> bool
 }
 
 // A HARD task's share, rounded up.
-fn hard_share(period: u32, cost: u32) -> u64
+pub fn hard_share(period: u32, cost: u32) -> u64
     requires { ⌜ 1 ≤ period ⌝ }
     ensures { λ r. ⌜ r ≡ share period cost ⌝ }
 {
@@ -276,7 +276,7 @@ fn hard_share(period: u32, cost: u32) -> u64
 }
 
 // A class's share, 0 for NRT.
-fn share_of(class: Class) -> u64
+pub fn share_of(class: Class) -> u64
     requires { ⌜ HardFits class ⌝ }
     ensures { λ r. ⌜ r ≡ share-of class ⌝ }
 {

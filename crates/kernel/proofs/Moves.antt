@@ -48,11 +48,11 @@ module _ {k : Kernel} {i : ℕ} (m : Movable k i) where
       queue-left (m .queues q l) (loose-there queue-count i (place k)) (λ x ne. refl) (m .is-task) (λ e. let h = loose-here queue-count i (place k) in omega arith)
 
   module _ (a : Bare) where
-    moved-task : task (move k i a) i ≡ a
+    pub moved-task : task (move k i a) i ≡ a
     unfolding move
     moved-task = getD-set-same (k .tasks) i a blank (let h = m .tasks in let l = m .is-task in omega arith)
 
-    kept-task : (x : ℕ) → (x ≡ i → ⊥) → task (move k i a) x ≡ task k x
+    pub kept-task : (x : ℕ) → (x ≡ i → ⊥) → task (move k i a) x ≡ task k x
     unfolding move
     kept-task x ne = getD-set-other (k .tasks) i x a blank ne
 

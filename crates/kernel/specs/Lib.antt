@@ -14,6 +14,8 @@ pub mod Step
 pub mod Seen
 pub mod Good
 pub mod Sound
+pub mod Shows
+pub mod Promise
 pub mod Fresh
 pub mod Bench
 pub mod Script

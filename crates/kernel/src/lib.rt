@@ -1,6 +1,7 @@
 // The state of one controller, with its sizes, its numbers and its fresh kernel, and what a call gives back.
 ghost use mathlib.Core.Path.{_≡_};
 ghost use Rattle.kernel.specs.Status.{status-number, stop-number, waiting, queue-of};
+ghost use Rattle.kernel.specs.Kernel.{period-of};
 ghost use Rattle.kernel.specs.Fresh.{fresh-state};
 
 // Numbers of three kinds, which cannot be mixed. A caller may hand in any.
@@ -240,6 +241,16 @@ pub fn status_number(status: Status) -> usize
         Status::Idle => Status::IDLE,
         Status::Wait(_) => Status::WAIT,
         Status::Zombie => Status::ZOMBIE,
+    }
+}
+
+// The period of a HARD class, 0 for NRT.
+pub fn period_of(class: Class) -> u32
+    ensures { λ r. ⌜ r ≡ period-of class ⌝ }
+{
+    match class {
+        Class::Nrt { priority: _ } => 0,
+        Class::Hard { period, cost: _ } => period,
     }
 }
 

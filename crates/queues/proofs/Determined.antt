@@ -13,8 +13,8 @@ use Rattle.kernel.specs.Kernel.{Kernel, task, queue}
 use Rattle.kernel.specs.Seen.{bare, past, record-at, seen}
 use Rattle.kernel.specs.Good.{place}
 use Rattle.kernel.specs.Sound.{Holds}
+use Rattle.kernel.specs.Shows.{Shows}
 use Rattle.kernel.proofs.Seen.{task-seen}
-use Rattle.queues.specs.Shows.{Shows}
 
 -- A record is its bare record and its links.
 same-record : (a b : Task) → bare a ≡ bare b → a .next ≡ b .next → a .previous ≡ b .previous → a ≡ b

@@ -25,10 +25,10 @@ use Rattle.kernel.specs.Moves.{move}
 use Rattle.kernel.specs.Seen.{bare, record-at, head-of, seen}
 use Rattle.kernel.specs.Good.{place, deadline-of}
 use Rattle.kernel.specs.Sound.{Holds}
+use Rattle.kernel.specs.Shows.{Shows}
 use Rattle.kernel.proofs.Seen.{queue-seen}
 use Rattle.kernel.proofs.Moves as Moves
 use Rattle.queues.specs.Links.{Linked, Place, passes, with-table, relinked, taken-out, filed-in}
-use Rattle.queues.specs.Shows.{Shows}
 use Rattle.queues.proofs.Links.{relinks, relinked-bare, relinked-head, other-heads, relinked-long, relinked-rest}
 use Rattle.queues.proofs.Out.{MovableIn, next-besides, previous-besides, written, records-with, Out, as-many, out}
 

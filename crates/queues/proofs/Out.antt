@@ -19,9 +19,9 @@ use Rattle.kernel.specs.Kernel.{Bare, queue, blank}
 use Rattle.kernel.specs.Seen.{bare, past, record-at, next-of, previous-of, seen}
 use Rattle.kernel.specs.Good.{place}
 use Rattle.kernel.specs.Sound.{Holds}
+use Rattle.kernel.specs.Shows.{Kept}
 use Rattle.kernel.proofs.Seen.{task-seen}
 use Rattle.queues.specs.Links.{with-table, with-record, relinked, taken-out}
-use Rattle.queues.specs.Shows.{Kept}
 use Rattle.queues.proofs.Links.{relinks, relinked-bare, relinked-head, other-heads, relinked-long, relinked-rest}
 
 -- What a move may count on: the queues are in order, i is a task, and the tables have the sizes that their types give them.

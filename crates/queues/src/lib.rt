@@ -8,7 +8,7 @@ ghost use Rattle.kernel.specs.Moves.{move};
 ghost use Rattle.kernel.specs.Seen.{seen};
 ghost use Rattle.queues.specs.First.{First};
 ghost use Rattle.queues.specs.Links.{Linked, Place, bare-of, with-record, with-next, with-previous, relinked, taken-out, filed-in};
-ghost use Rattle.queues.specs.Shows.{Kept, Shows};
+ghost use Rattle.kernel.specs.Shows.{Kept, Shows};
 use kernel::Class;
 use kernel::State;
 use kernel::Status;
