@@ -1,0 +1,17 @@
+-- A status past the table is that of a FREE record. Assumes nothing.
+use mathlib.Core.Path.{ap, sym, _∙_}
+use borrow.Author.Needs.{needs}
+use Rattle.kernel.specs.Status.{status-number}
+use Rattle.kernel.specs.Kernel.{Bare}
+use Rattle.kernel.proofs.Seen.{held-length, task-seen, task-past}
+use Rattle.refusals.proofs.status_of.Statement.{statement}
+use Rattle.refusals.proofs.status_of.Tie as tie
+
+inside : tie.Need-returns
+inside c = let k = c .before .before .before in c .status-number .ensures ∙ sym (ap (λ (a : Bare). status-number (a .status)) (task-seen (k .args .t1) (k .args .n)))
+
+past : tie.Need-returns-2
+past c = let k = c .before in sym (ap (λ (a : Bare). status-number (a .status)) (task-past (k .args .t1) (k .args .n) (search (held-length)) (c .if1 .left)))
+
+pub status-of-spec : {M : Type 1} → statement M
+status-of-spec = tie.close (tie.spec (λ c. search needs) (λ c. search needs) (λ c κs. search needs) inside past)
