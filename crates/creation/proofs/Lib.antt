@@ -1,0 +1,3 @@
+-- Facts behind create.
+pub mod Sizes
+pub mod Creatable

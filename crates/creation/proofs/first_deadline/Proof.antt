@@ -1,0 +1,14 @@
+-- A first deadline, case by case. Assumes nothing.
+use mathlib.Core.Path.{refl}
+use borrow.Author.Needs.{needs}
+use Rattle.creation.proofs.first_deadline.Statement.{statement}
+use Rattle.creation.proofs.first_deadline.Tie as tie
+
+nrt : tie.Need-returns
+nrt c = rw (c .before .class .given .1) refl
+
+hard : tie.Need-returns-2
+hard c = rw (c .enum-told .given .1) refl
+
+pub first-deadline-spec : {M : Type 1} → statement M
+first-deadline-spec = tie.close (tie.spec (λ c. search needs) (λ c. search needs) (λ c. search needs) (λ c. search needs) nrt hard)

@@ -1,0 +1,39 @@
+-- The rows of create HARD, in their order. Assumes nothing.
+use mathlib.Core.Path.{refl, ap}
+use mathlib.Core.Bool.{not}
+use Prim.Native.Nat.{ℕ}
+use lib.Dec.{eqb}
+use borrow.Author.Needs.{needs}
+use borrow.Author.Tests.{not-false}
+use Rattle.kernel.specs.Sizes.{task-count}
+use Rattle.refusals.proofs.Says.{none-own, settled}
+use Rattle.creation.proofs.Sizes.{tested}
+use Rattle.creation.proofs.may_create_hard.Statement.{statement}
+use Rattle.creation.proofs.may_create_hard.Tie as tie
+
+table : tie.Need-returns
+table c =
+    let share = c .before in
+    let four = share .before in
+    let free = four .before in
+    let seven = free .before in
+    let fit = seven .before in
+    let every = fit .before in
+    let k = every .before in
+    let s = k .args .s in
+    let first = seven .row .ensures _ s _ (every .every-call .ensures) (λ p. ap not (fit .fit .ensures)) in
+    let second = four .row2 .ensures _ s _ first (λ p. ap (λ (n : ℕ). eqb n task-count) (free .lowest-free .ensures)) in
+    settled (c .row3 .ensures _ s _ second (λ p. share .too-much .ensures (tested (k .args .period) (k .args .cost) (not-false _ (none-own p .0))))) (λ b m. refl)
+
+pub may-create-hard-spec : {M : Type 1} → statement M
+may-create-hard-spec =
+    tie.close
+    (tie.spec
+    (λ c κs. search needs)
+    (λ c κs. search needs)
+    (λ c κs. search needs)
+    (λ c κs. search needs)
+    (λ c κs. search needs)
+    (λ c κs. search needs)
+    (λ c κs. search needs)
+    table)

@@ -1,0 +1,2 @@
+-- What creating a task asks.
+pub mod Creatable
