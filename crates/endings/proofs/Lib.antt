@@ -1,0 +1,2 @@
+-- Facts behind end and kill.
+pub mod Ends
