@@ -1,0 +1,3 @@
+-- Facts behind the calls on semaphores.
+pub mod Waiters
+pub mod Cases

@@ -1,0 +1,23 @@
+-- The rows of new semaphore, in their order. Assumes nothing.
+use mathlib.Core.Path.{refl, ap}
+use Prim.Native.Nat.{ℕ}
+use lib.Dec.{eqb}
+use borrow.Author.Needs.{needs}
+use Rattle.kernel.specs.Sizes.{semaphore-count}
+use Rattle.refusals.proofs.Says.{settled}
+use Rattle.semaphores.proofs.may_make.Statement.{statement}
+use Rattle.semaphores.proofs.may_make.Tie as tie
+
+table : tie.Need-returns
+table c =
+    let lowest = c .before in
+    let seven = lowest .before in
+    let every = seven .before in
+    let s = every .before .args .s in
+    settled
+    (c .row2 .ensures _ s _ (seven .row .ensures _ s _ (every .every-call .ensures) (λ p. refl)) (λ p. ap (λ (n : ℕ). eqb n semaphore-count) (lowest .lowest .ensures)))
+    (λ b m. refl)
+
+pub may-make-spec : {M : Type 1} → statement M
+may-make-spec =
+    tie.close (tie.spec (λ c κs. search needs) (λ c. search needs) (λ c κs. search needs) (λ c κs. search needs) (λ c κs. search needs) table)
