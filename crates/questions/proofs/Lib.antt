@@ -1,0 +1,2 @@
+-- Facts behind the questions.
+pub mod Numbers
