@@ -1,0 +1,31 @@
+-- What holds while a legal tick that does not stop is under way. Assumes nothing.
+use mathlib.Core.Path.{_≡_, refl}
+use mathlib.Core.Bool.{false}
+use Prim.Native.Nat.{_+_}
+use native.Mathlib.Omega.{arith}
+use Rattle.kernel.specs.declared.State.{State}
+use Rattle.kernel.specs.Sizes.{lifetime}
+use Rattle.kernel.specs.Status.{zombie}
+use Rattle.kernel.specs.Kernel.{Kernel, queue, with-clock}
+use Rattle.kernel.specs.Tick.{free-zombies, overrun}
+use Rattle.kernel.specs.Calls.{tick}
+use Rattle.kernel.specs.Seen.{seen}
+use Rattle.kernel.proofs.Deadlines.{before-lifetime}
+use Rattle.effects.specs.UnderWay.{Freeing, Ticking}
+use Rattle.effects.proofs.Steady.{earliest}
+use Rattle.effects.proofs.Sweep.{all-swept}
+use Rattle.effects.proofs.Ticking.{begins}
+use Rattle.effects.proofs.Due.{frees}
+use Rattle.refusals.specs.Tested.{Legal}
+use Rattle.refusals.proofs.Answers.{allows}
+
+pub begun : {s : State} → Legal tick s → (s .clock + 1 ≡ lifetime → ⊥) → overrun (with-clock (seen s) (s .clock + 1)) ≡ false
+    → Freeing (with-clock (seen s) (s .clock + 1))
+begun {s} h ne e =
+    let g = h .sound .good in
+    let going = allows h .going in
+    (begins g going (omega (arith, before-lifetime g going)) e, earliest g)
+
+pub zombies-gone : {k : Kernel} → Freeing k → Ticking (free-zombies k)
+unfolding free-zombies
+zombies-gone {k} p = all-swept frees k (queue k zombie) p refl .0 .0
