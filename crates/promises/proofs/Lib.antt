@@ -1,0 +1,4 @@
+-- The theorems over all calls.
+pub mod Answers
+pub mod Before
+pub mod Earliest

@@ -1,0 +1,3 @@
+-- What the theorems over all calls say.
+pub mod Outcome
+pub mod Earliest
