@@ -1,0 +1,21 @@
+// Runs document 01's script and the bench cases of tasks and semaphores that are to be run, and prints a line a call.
+mod document;
+mod lives;
+mod slack;
+mod waiting;
+
+fn main() {
+    lines::title(b"document 01's script");
+    document::script();
+    lines::title(b"slack before, at and after the deadline");
+    slack::asleep();
+    lines::title(b"tasks");
+    lives::equals();
+    lives::overrun();
+    lives::cycles();
+    lives::zombies();
+    lines::title(b"semaphores");
+    waiting::signals();
+    waiting::killed();
+    waiting::all();
+}

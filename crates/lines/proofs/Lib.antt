@@ -1,0 +1,2 @@
+-- Facts behind what is printed.
+pub mod Below

@@ -1,0 +1,78 @@
+// What the test programs print: a line a call, with its answer, the running task and the clock.
+use kernel::Answer;
+use kernel::Reply;
+use kernel::State;
+use libc::STDOUT_FILENO;
+
+pub fn write(text: &[u8]) {
+    io::write_all(STDOUT_FILENO, text);
+}
+
+pub fn title(text: &[u8]) {
+    write(b"-- ");
+    write(text);
+    write(b"\n");
+}
+
+pub fn number(n: u64) {
+    io::print_decimal(STDOUT_FILENO, n);
+}
+
+fn signed(n: i64) {
+    if n < 0 {
+        write(b"-");
+        let below = -1 - n;
+        number(below as u64 + 1);
+    } else {
+        number(n as u64);
+    }
+}
+
+fn answer(a: Answer) {
+    match a {
+        Answer::Done(n) => signed(n),
+        Answer::Refused(n) => {
+            write(b"refused ");
+            signed(n);
+        }
+    }
+}
+
+// Prints what a call gave, and goes on with its state.
+pub fn after(call: &[u8], r: Reply) -> State {
+    write(call);
+    write(b": ");
+    let a = r.answer;
+    answer(a);
+    let s = r.state;
+    write(b", task ");
+    number(r.running.0 as u64);
+    write(b", clock ");
+    number(s.clock as u64);
+    write(b"\n");
+    s
+}
+
+// n ticks, of which the last is printed.
+pub fn ticked(s: State, n: usize) -> State {
+    let mut t = s;
+    let mut left = n;
+    while left > 1 {
+        let r = ticks::tick(t);
+        t = r.state;
+        left -= 1;
+    }
+    after(b"tick", ticks::tick(t))
+}
+
+// n tasks of NRT priority 9, of which the last is printed.
+pub fn crowd(s: State, n: usize) -> State {
+    let mut t = s;
+    let mut left = n;
+    while left > 1 {
+        let r = creation::create_nrt(t, 9);
+        t = r.state;
+        left -= 1;
+    }
+    after(b"nrt 9", creation::create_nrt(t, 9))
+}
