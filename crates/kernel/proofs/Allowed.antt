@@ -1,6 +1,6 @@
 -- What a call is told where no row of the table applies to it. Assumes nothing.
 use mathlib.Core.Path.{_≡_, refl}
-use mathlib.Core.Bool.{Bool, true, false, true≢false, false≢true, not, _||_, and-eq-true-iff}
+use mathlib.Core.Bool.{Bool, true, false, true≢false, false≢true, not, _&&_, _||_, and-eq-true-iff}
 use mathlib.Core.List.{List, [], _∷_}
 use mathlib.Core.Option.{none}
 use Prim.Native.Nat.{ℕ, _+_, _≤_, _<_}
@@ -29,6 +29,14 @@ neither false b e = (refl, e)
 
 from-to : (a n b : ℕ) → within a n b ≡ true → (a ≤ n) × (n ≤ b)
 from-to a n b e = let t = and-eq-true-iff (leb a n) (leb n b) .0 e in (leb-true a n (t .0), leb-true n b (t .1))
+
+-- Period and cost inside their sizes.
+pub sizes-fit : (p c : ℕ) → within 1 p longest-period && within 1 c p ≡ true → Fits (Hard p c)
+sizes-fit p c e =
+    let both = and-eq-true-iff (within 1 p longest-period) (within 1 c p) .0 e in
+    let period = from-to 1 p longest-period (both .0) in
+    let cost = from-to 1 c p (both .1) in
+    (period .0, period .1, cost .0, cost .1)
 
 none-there : (xs : List ℕ) → empty xs ≡ true → xs ≡ []
 none-there [] e = refl
@@ -116,11 +124,7 @@ module _ (h : Handed) where
   tells tick p = told h p (λ q. tt)
   tells (create-hard n c) p =
       told h p
-      (λ q.
-      let b = and-eq-true-iff (within 1 n longest-period) (within 1 c n) .0 (not-false _ (q .0)) in
-      let period = from-to 1 n longest-period (b .0) in
-      let cost = from-to 1 c n (b .1) in
-      ((period .0, period .1, cost .0, cost .1), eqb-false (lowest-free k) task-count (q .1 .0), ltb-false whole (k .share + share n c) (q .1 .1 .0)))
+      (λ q. (sizes-fit n c (not-false _ (q .0)), eqb-false (lowest-free k) task-count (q .1 .0), ltb-false whole (k .share + share n c) (q .1 .1 .0)))
   tells (create-nrt n) p = told h p (λ q. (ltb-false last-priority n (q .0), eqb-false (lowest-free k) task-count (q .1 .0)))
   tells (activate n) p = told h p (λ q. (task-in-use k n (q .0) .0, eqb-true (status-number (task k n .status)) SLEEP (not-false _ (q .1 .0))))
   tells sleep p = told h p (λ q. eqb-false (k .running) 0 (q .0))

@@ -6,8 +6,8 @@ use lib.Dec.{eqb}
 use borrow.Author.Needs.{needs}
 use borrow.Author.Tests.{not-false}
 use Rattle.kernel.specs.Sizes.{task-count}
+use Rattle.kernel.proofs.Allowed.{sizes-fit}
 use Rattle.refusals.proofs.Says.{none-own, settled}
-use Rattle.creation.proofs.Sizes.{tested}
 use Rattle.creation.proofs.may_create_hard.Statement.{statement}
 use Rattle.creation.proofs.may_create_hard.Tie as tie
 
@@ -23,7 +23,7 @@ table c =
     let s = k .args .s in
     let first = seven .row .ensures _ s _ (every .every-call .ensures) (λ p. ap not (fit .fit .ensures)) in
     let second = four .row2 .ensures _ s _ first (λ p. ap (λ (n : ℕ). eqb n task-count) (free .lowest-free .ensures)) in
-    settled (c .row3 .ensures _ s _ second (λ p. share .too-much .ensures (tested (k .args .period) (k .args .cost) (not-false _ (none-own p .0))))) (λ b m. refl)
+    settled (c .row3 .ensures _ s _ second (λ p. share .too-much .ensures (sizes-fit (k .args .period) (k .args .cost) (not-false _ (none-own p .0))))) (λ b m. refl)
 
 pub may-create-hard-spec : {M : Type 1} → statement M
 may-create-hard-spec =

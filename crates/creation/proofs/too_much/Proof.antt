@@ -9,8 +9,9 @@ use borrow.Author.Tests.{not-true, not-false}
 use Rattle.kernel.specs.declared.Class.the-variants.{Hard}
 use Rattle.kernel.specs.Sizes.{whole}
 use Rattle.kernel.specs.Good.{Fits}
+use Rattle.kernel.proofs.Allowed.{sizes-fit}
 use Rattle.clauses.proofs.Sum.{share-most}
-use Rattle.creation.proofs.Sizes.{tested, passes}
+use Rattle.creation.proofs.Sizes.{passes}
 use Rattle.creation.proofs.too_much.Statement.{statement}
 use Rattle.creation.proofs.too_much.Tie as tie
 
@@ -18,7 +19,7 @@ outside : tie.Need-returns
 outside c = λ f. let k = c .before .before in absurd (false≢true (sym (not-true _ (c .if1 .taken)) ∙ c .before .fit .ensures ∙ passes (k .args .period) (k .args .cost) f))
 
 fits : (c : tie.Else1) → Fits (Hard (c .before .before .args .period) (c .before .before .args .cost))
-fits c = let k = c .before .before in tested (k .args .period) (k .args .cost) (sym (c .before .fit .ensures) ∙ not-false _ (c .if1 .left))
+fits c = let k = c .before .before in sizes-fit (k .args .period) (k .args .cost) (sym (c .before .fit .ensures) ∙ not-false _ (c .if1 .left))
 
 period : tie.Need-cast-hard-share
 period c = let f = fits c in fits-under w32 _ 4294967296 (omega arith) tt
