@@ -46,6 +46,6 @@ module _ (s : State) where
   -- The next deadline fits 32 bits.
   pub renewed-fits : Sound s → own .deadline + period-of (own .class) < 4294967296
   renewed-fits h =
-      let l = h .good .runs .running in
+      let g = h .good .tasks (s .running .0) (h .good .runs .running) in
       subst (λ (a : Bare). a .deadline + period-of (a .class) < 4294967296) (task-seen s (s .running .0))
-      (omega (arith, period-most (h .good) (s .running .0) l, deadline-most (h .good) (s .running .0) l))
+      (omega (arith, period-most g, deadline-most (h .good .clocked .clock) g))

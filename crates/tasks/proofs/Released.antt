@@ -28,7 +28,7 @@ module _ (s : State) (n : ℕ) where
   release-fits h l =
       let a = task (seen s) n in
       subst (λ (b : Bare). release (b .class) (s .clock) (b .deadline) < 4294967296) (task-seen s n)
-      (omega (arith, release-most (a .class) (s .clock) (a .deadline), period-most (h .good) n l, deadline-most (h .good) n l, h .good .clocked .clock))
+      (omega (arith, release-most (a .class) (s .clock) (a .deadline), period-most (h .good .tasks n l), deadline-most (h .good .clocked .clock) (h .good .tasks n l), h .good .clocked .clock))
 
   pub activate-is : activate n (seen s) ≡ schedule (move (seen s) n (record { class = record-at (s .tasks) n .class; status = Ready; deadline = released }))
   unfolding activate

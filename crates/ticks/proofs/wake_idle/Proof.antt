@@ -5,20 +5,17 @@ use native.Mathlib.Omega.{arith}
 use lib.ListN.{length}
 use borrow.Author.Needs.{needs}
 use borrow.Author.Tests.{ltb-true, ltb-false}
-use Rattle.kernel.specs.declared.Class.{Class}
-use Rattle.kernel.specs.declared.Class.the-variants.{Nrt, Hard}
-use Rattle.kernel.specs.Sizes.{task-count, longest-period}
+use Rattle.kernel.specs.Sizes.{task-count}
 use Rattle.kernel.specs.Status.{idle}
-use Rattle.kernel.specs.Kernel.{task, queue, period-of}
+use Rattle.kernel.specs.Kernel.{queue}
 use Rattle.kernel.specs.Moves.{schedule}
 use Rattle.kernel.specs.Tick.{wake}
 use Rattle.kernel.specs.Seen.{seen}
 use Rattle.kernel.specs.Shows.{Shows}
 use Rattle.kernel.proofs.Shows.{then}
+use Rattle.kernel.proofs.Deadlines.{period-most}
 use Rattle.effects.specs.UnderWay.{Ticking}
 use Rattle.effects.proofs.Due.{wakes}
-use Rattle.clauses.specs.Task.{HardFits}
-use Rattle.clauses.proofs.Sum.{hard-fits}
 use Rattle.ticks.proofs.Cases.{none-wakes, some-wakes}
 use Rattle.ticks.proofs.Sweeping.{Sweeping, ended, again, fewer}
 use Rattle.ticks.proofs.wake_idle.Statement.{statement}
@@ -33,17 +30,12 @@ abbrev μ-loop : tie.MeasureT-loop
 holds : tie.Need-loop-holds Inv-loop μ-loop
 holds c = let k = c .before in record { kept = k .pre .0; holds = k .pre .1; first = c .first-due .ensures; same = refl }
 
-period-fits : (class : Class) → HardFits class → period-of class ≤ longest-period
-period-fits (Hard p c) f = omega (arith, f refl)
-period-fits (Nrt p) f = omega arith
-
 wakes-one : tie.Need-wake-requires Inv-loop μ-loop
 wakes-one c κs =
     let w = c .before .loop .inv in
     let l = c .loop-test .taken in
-    let a = task (seen (c .before .loop .r)) (c .before .loop .idle) in
     let s = w .holds .steady in
-    (w .kept, (l, omega (arith, w .first .due l, s .clocked .clock, period-fits (a .class) (hard-fits (s .tasks (c .before .loop .idle) l)))))
+    (w .kept, (l, omega (arith, w .first .due l, s .clocked .clock, period-most (s .tasks (c .before .loop .idle) l))))
 
 less : tie.Need-loop-less Inv-loop μ-loop
 less c = let l = c .before .before in fewer wakes (l .before .loop .inv) (l .loop-test .taken) (c .before .wake .ensures)
