@@ -3,6 +3,7 @@ use mathlib.Core.Path.{_≡_, sym, ap, subst, _∙_}
 use Prim.Native.Nat.{ℕ, _≤_, _<_}
 use native.Mathlib.Omega.{arith}
 use native.Mathlib.Decide.{ℕ-discrete}
+use lib.ListN.{length-set}
 use lib.Dec.{leb}
 use Rattle.chain.specs.Lists.{Among, insert, remove}
 use Rattle.chain.specs.Filing.{Queue}
@@ -17,17 +18,17 @@ use Rattle.kernel.specs.Moves.{move}
 use Rattle.kernel.specs.Seen.{seen}
 use Rattle.kernel.specs.Good.{Good, Timely, place, deadline-of}
 use Rattle.kernel.specs.Sound.{Sound}
-use Rattle.kernel.proofs.Moves.{Movable, out-queues, moved-queue, kept-queue}
+use Rattle.kernel.proofs.Moves.{Movable, move-sized, out-queues, moved-queue, kept-queue, moved-queues}
 use Rattle.kernel.proofs.Processor.{dispatch-first}
 use Rattle.kernel.proofs.Deadlines.{hard-before-nrt}
 use Rattle.effects.proofs.Standing.{stands}
 use Rattle.effects.proofs.Steady as Steady
-use Rattle.promises.specs.Earliest.{Before, IsReady, EarliestFirst}
+use Rattle.promises.specs.Earliest.{Before, IsReady, InOrder, TieRule, EarliestFirst}
 use Rattle.promises.proofs.Before.{rising-before, insert-before, insert-behind, remove-before}
 
-module _ {k : Kernel} (g : Good k) where
+module _ {k : Kernel} (o : InOrder k) where
   ready-queue : Queue task-count (place k) (deadline-of k) ready (queue k ready)
-  ready-queue = g .queues ready (omega arith)
+  ready-queue = o .queues ready (omega arith)
 
   stands-ready : {x : ℕ} → IsReady k x → place k x ≡ ready
   stands-ready {x} h = stands (task k x .status) .in-ready .0 (h .status)
@@ -35,18 +36,8 @@ module _ {k : Kernel} (g : Good k) where
   among : {x : ℕ} → IsReady k x → Among x (queue k ready)
   among {x} h = ready-queue .all x (h .is-task) (stands-ready h)
 
-  earlier : (x y : ℕ) → IsReady k x → IsReady k y → task k x .deadline < task k y .deadline → Before x y (queue k ready)
-  earlier x y hx hy l = rising-before (deadline-of k) x y l (queue k ready) (ready-queue .rising) (among hx) (among hy)
-
-  in-use : {x : ℕ} → IsReady k x → status-number (task k x .status) ≡ FREE → ⊥
-  in-use h z = let e = h .status in omega arith
-
-  -- An NRT deadline, by its priority.
-  nrt-deadline-of : (x p : ℕ) → IsReady k x → task k x .class ≡ Nrt p → task k x .deadline ≡ nrt-deadline p
-  nrt-deadline-of x p h e = subst (λ c. Timely (k .clock) c (status-number (task k x .status)) (task k x .deadline)) e (g .tasks x (h .is-task) .timely) .1 (in-use h)
-
   movable : (i : ℕ) → i < task-count → Movable k i
-  movable i l = record { tasks = g .sized .tasks; lists = g .sized .queues; queues = g .queues; is-task = l }
+  movable i l = record { tasks = o .tasks; lists = o .lists; queues = o .queues; is-task = l }
 
   -- Where i becomes ready, it is inserted among the other ready ones.
   joined : (i : ℕ) (a : Bare) → i < task-count → queue-of (a .status) ≡ ready
@@ -58,10 +49,10 @@ module _ {k : Kernel} (g : Good k) where
   joins : (i : ℕ) (a : Bare) → i < task-count → a .status ≡ Ready → (x : ℕ) → IsReady k x → (x ≡ i → ⊥) → task k x .deadline ≤ a .deadline
       → Before x i (queue (move k i a) ready)
   joins i a li e x h ne l =
-      let o = out-queues (movable i li) ready (omega arith) in
+      let out = out-queues (movable i li) ready (omega arith) in
       rw (joined i a li (ap queue-of e))
-      (insert-behind (deadline-of k) (a .deadline) i x l (remove i (queue k ready)) (o .rising)
-      (o .all x (h .is-task) (loose-there queue-count i (place k) x ne ∙ stands-ready h)))
+      (insert-behind (deadline-of k) (a .deadline) i x l (remove i (queue k ready)) (out .rising)
+      (out .all x (h .is-task) (loose-there queue-count i (place k) x ne ∙ stands-ready h)))
 
   stays : (i : ℕ) (a : Bare) → i < task-count → (x y : ℕ) → (x ≡ i → ⊥) → (y ≡ i → ⊥) → Before x y (queue k ready) → Before x y (queue (move k i a) ready)
   stays i a l x y nx ny b = go (ℕ-discrete ready (queue-of (a .status)))
@@ -73,6 +64,30 @@ module _ {k : Kernel} (g : Good k) where
       go (yes e) = rw (joined i a l (sym e)) (insert-before _ i x y (remove i (queue k ready)) out)
       go (no ne) = rw (kept-queue (movable i l) a ready (omega arith) ne) out
 
+  -- **tie-rule**: of any kernel whose queues are in order.
+  pub tie-rule : TieRule k
+  unfolding move
+  tie-rule =
+      record {
+        joins = joins;
+        stays = stays;
+        again = λ i a l. record { tasks = length-set (k .tasks) i a ∙ o .tasks; lists = move-sized k i a ∙ o .lists; queues = moved-queues (movable i l) a };
+      }
+
+module _ {k : Kernel} (g : Good k) where
+  o : InOrder k
+  o = record { tasks = g .sized .tasks; lists = g .sized .queues; queues = g .queues }
+
+  earlier : (x y : ℕ) → IsReady k x → IsReady k y → task k x .deadline < task k y .deadline → Before x y (queue k ready)
+  earlier x y hx hy l = rising-before (deadline-of k) x y l (queue k ready) (ready-queue o .rising) (among o hx) (among o hy)
+
+  in-use : {x : ℕ} → IsReady k x → status-number (task k x .status) ≡ FREE → ⊥
+  in-use h z = let e = h .status in omega arith
+
+  -- An NRT deadline, by its priority.
+  nrt-deadline-of : (x p : ℕ) → IsReady k x → task k x .class ≡ Nrt p → task k x .deadline ≡ nrt-deadline p
+  nrt-deadline-of x p h e = subst (λ c. Timely (k .clock) c (status-number (task k x .status)) (task k x .deadline)) e (g .tasks x (h .is-task) .timely) .1 (in-use h)
+
   pub good-earliest-first : EarliestFirst k
   good-earliest-first =
       record {
@@ -82,8 +97,7 @@ module _ {k : Kernel} (g : Good k) where
         hard-first = λ x y hx hy going h n. earlier x y hx hy (hard-before-nrt g going x y (hx .is-task) (hy .is-task) h n (in-use hy));
         by-priority = λ x y p q hx hy ex ey l.
             earlier x y hx hy (let a = nrt-deadline-of x p hx ex in let b = nrt-deadline-of y q hy ey in omega arith);
-        joins = joins;
-        stays = stays;
+        ties = tie-rule o;
       }
 
 -- **earliest-first**: on a sound state the running deadline is no later than any ready one, and the ready queue is served by deadline and,
