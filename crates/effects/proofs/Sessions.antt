@@ -2,11 +2,12 @@
 use mathlib.Core.Path.{_≡_, refl, sym, ap, _∙_}
 use mathlib.Core.List.{List, [], _∷_}
 use mathlib.Core.Logic.{_⊎_, inl, inr, ⊎-map, Iff·rfl}
-use Prim.Native.Nat.{ℕ, zero, suc, _<_}
+use Prim.Native.Nat.{ℕ, zero, suc, _*_, _<_}
 use native.Mathlib.Omega.{arith}
 use native.Mathlib.Decide.{ℕ-discrete}
 use lib.ListN.{length, getD, set, length-set}
 use lib.Seq.{getD-set-other}
+use Rattle.kernel.specs.declared.Channel.{Channel}
 use Rattle.kernel.specs.declared.Session.{Session}
 use Rattle.kernel.specs.declared.Session.the-variants.{Closed, Write, Reading}
 use Rattle.kernel.specs.declared.Slot.{Slot}
@@ -73,6 +74,28 @@ fewer {j} {k} {c} f g =
     opens t l (inl e) = inl (writes t l e)
     opens t l (inr e) = inr (reads t l e)
 
+-- ---- the channels and their sessions become others
+
+-- The kernel with these channels and these sessions.
+abbrev pub with-channels : Kernel → List Channel → List Slot → Kernel
+with-channels k hs zs =
+    record { clock = k .clock; stop = k .stop; running = k .running; share = k .share; tasks = k .tasks; queues = k .queues; semaphores = k .semaphores; channels = hs; sessions = zs }
+
+-- Where each channel is good, nothing else is asked.
+pub channels-steady : {k : Kernel} → Steady k → (hs : List Channel) (zs : List Slot) → length hs ≡ channel-count → length zs ≡ task-count * channel-count
+    → ((c : ℕ) → c < channel-count → GoodChannel (with-channels k hs zs) c) → Steady (with-channels k hs zs)
+channels-steady s hs zs channels sessions each =
+    record {
+      sized = record { tasks = s .sized .tasks; queues = s .sized .queues; semaphores = s .sized .semaphores; channels = channels; sessions = sessions };
+      tasks = λ x l. task-kept refl refl Iff·rfl (λ q z u. u) (s .tasks x l);
+      queues = s .queues;
+      shared = record { share = s .shared .share; share-fits = s .shared .share-fits };
+      semaphores = s .semaphores;
+      channels = each;
+      clocked = record { clock = s .clocked .clock; expired = s .clocked .expired };
+      ahead = s .ahead;
+    }
+
 -- ---- the sessions of one task are closed
 
 -- What is stored at a place stands there, past the end too where that is what is read there.
@@ -108,7 +131,7 @@ module _ (t : ℕ) (zs : List Slot) where
       go ih (yes e) = rw e (set-default (close-sessions n t zs) (slot-number n t) (slot Closed))
       go ih (no ne) = getD-set-other (close-sessions n t zs) (slot-number n t) (slot-number c t) (slot Closed) (slot Closed) ne ∙ ih (omega arith)
 
-abbrev of-slot : Slot → Session
+abbrev pub of-slot : Slot → Session
 of-slot z = z .session
 
 module _ (k : Kernel) (n : ℕ) where
@@ -121,26 +144,12 @@ module _ (k : Kernel) (n : ℕ) where
 
   pub closed-steady : Steady k → Steady without
   closed-steady s =
-      record {
-        sized = record {
-          tasks = s .sized .tasks;
-          queues = s .sized .queues;
-          semaphores = s .sized .semaphores;
-          channels = s .sized .channels;
-          sessions = close-length n (k .sessions) channel-count ∙ s .sized .sessions;
-        };
-        tasks = λ x l. task-kept refl refl Iff·rfl (λ q z u. u) (s .tasks x l);
-        queues = s .queues;
-        shared = record { share = s .shared .share; share-fits = s .shared .share-fits };
-        semaphores = s .semaphores;
-        channels = λ c l.
-            fewer
-            (record {
-              channel-is = refl;
-              session-is = λ t lt. ⊎-map (ap of-slot) (ap of-slot) (kept-or-closed n (k .sessions) channel-count (slot-number c t));
-              in-use = busy (s .channels c l);
-            })
-            (s .channels c l);
-        clocked = record { clock = s .clocked .clock; expired = s .clocked .expired };
-        ahead = s .ahead;
-      }
+      channels-steady s (k .channels) (close-sessions channel-count n (k .sessions)) (s .sized .channels) (close-length n (k .sessions) channel-count ∙ s .sized .sessions)
+      (λ c l.
+      fewer
+      (record {
+        channel-is = refl;
+        session-is = λ t lt. ⊎-map (ap of-slot) (ap of-slot) (kept-or-closed n (k .sessions) channel-count (slot-number c t));
+        in-use = busy (s .channels c l);
+      })
+      (s .channels c l))

@@ -15,6 +15,7 @@ pub mod Seen
 pub mod Good
 pub mod Sound
 pub mod Shows
+pub mod Slices
 pub mod Promise
 pub mod Fresh
 pub mod Bench

@@ -2,37 +2,30 @@
 use mathlib.Core.Path.{_≡_, refl, ap, sym, subst, _∙_}
 use mathlib.Core.Bool.{Bool, true, false, false≢true}
 use mathlib.Core.Logic.{_↔_}
-use mathlib.Core.List.{List}
 use mathlib.Core.Option.{Option, none, some}
-use Prim.Native.Nat.{ℕ}
 use lib.IntN.{ℤ}
 use Rattle.kernel.specs.declared.Answer.the-variants.{Done, Refused}
 use Rattle.kernel.specs.declared.State.{State}
-use Rattle.kernel.specs.declared.Reply.{Reply}
 use Rattle.kernel.specs.Answer.{is-refusal, number}
 use Rattle.kernel.specs.Calls.{Call, effect}
-use Rattle.kernel.specs.Refusals.{first, rows}
+use Rattle.kernel.specs.Refusals.{first, table, rows}
 use Rattle.kernel.specs.Step.{by-table, step}
 use Rattle.kernel.specs.Seen.{seen}
 use Rattle.kernel.specs.Good.{Good}
 use Rattle.kernel.specs.Sound.{Sound}
-use Rattle.kernel.specs.Promise.{handed, Gives, Answered}
-use Rattle.kernel.proofs.Rows.{not-none}
+use Rattle.kernel.specs.Promise.{handed, Loan, Given, Gives, Answered}
+use Rattle.kernel.proofs.Refusals.{Each, listed}
+use Rattle.kernel.proofs.Rows.{not-none, held}
 use Rattle.kernel.proofs.Allowed.{allowed}
-use Rattle.effects.proofs.Effects.{of-tasks, effect-good}
+use Rattle.effects.proofs.Effects.{effect-good}
 use Rattle.queues.proofs.Determined.{shows-once}
 use Rattle.promises.specs.Outcome.{TookEffect}
 
 -- ---- answers
 
 -- A refusal is no success, and has one number.
-done-refused : {v x : ℤ} → Done v ≡ Refused x → ⊥
+pub done-refused : {v x : ℤ} → Done v ≡ Refused x → ⊥
 done-refused e = false≢true (ap is-refusal e)
-
--- The number that is there, y where there is none.
-abbrev held : ℤ → Option ℤ → ℤ
-held y none = y
-held y (some x) = x
 
 -- Two that say truly whether the same holds say the same.
 one-truth : {P : Type 0} (a b : Bool) → (a ≡ true) ↔ P → (b ≡ true) ↔ P → a ≡ b
@@ -43,60 +36,80 @@ one-truth false false f g = refl
 -- ---- what one promise says
 
 -- What is given back where the table says o.
-abbrev By : Call → State → List ℕ → Reply → List ℕ → Bool → Option ℤ → Type 0
-By c s m r n b o = Gives (by-table o (effect c (seen s) m) (handed b s m)) s r n
+abbrev pub By : Call → State → Loan → Given → Bool → Option ℤ → Type 0
+By c s l g b o = Gives (by-table o (effect c (seen s) (l .memory .bytes)) (handed b s (l .memory .bytes))) s l g
 
-module _ {c : Call} {s : State} {m n : List ℕ} {r : Reply} (a : Answered c s m r n) where
+-- What the table says.
+abbrev pub says : Call → State → Loan → Bool → Option ℤ
+says c s l b = first (rows c (handed b s (l .memory .bytes)))
+
+module _ {c : Call} {s : State} {l : Loan} {g : Given} (a : Answered c s l g) where
   -- The table is told truly, whoever tells it.
-  by : (b : Bool) → (b ≡ true) ↔ Sound s → By c s m r n b (first (rows c (handed b s m)))
+  pub by : (b : Bool) → (b ≡ true) ↔ Sound s → By c s l g b (says c s l b)
   unfolding step
-  by b d = subst (λ (t : Bool). By c s m r n t (first (rows c (handed t s m)))) (one-truth (a .sound) b (a .decided) d) (a .gives)
+  by b d = subst (λ (t : Bool). By c s l g t (says c s l t)) (one-truth (a .sound) b (a .decided) d) (a .gives)
 
   -- **refused-exactly**: a call is refused with x exactly where row x is the first of the table that applies.
-  pub refused-exactly : (b : Bool) → (b ≡ true) ↔ Sound s → (x : ℤ) → (r .answer ≡ Refused x) ↔ (first (rows c (handed b s m)) ≡ some x)
-  refused-exactly b d x = go (first (rows c (handed b s m))) (by b d)
+  pub refused-exactly : (b : Bool) → (b ≡ true) ↔ Sound s → (x : ℤ) → (g .reply .answer ≡ Refused x) ↔ (says c s l b ≡ some x)
+  refused-exactly b d x = go (says c s l b) (by b d)
     where
-      go : (o : Option ℤ) → By c s m r n b o → (r .answer ≡ Refused x) ↔ (o ≡ some x)
-      go none g = (λ e. absurd (done-refused (sym (g .answer) ∙ e)), λ e. absurd (not-none (sym e)))
-      go (some y) g = (λ e. ap some (ap number (sym (g .answer) ∙ e)), λ e. g .answer ∙ ap Refused (ap (held y) e))
+      go : (o : Option ℤ) → By c s l g b o → (g .reply .answer ≡ Refused x) ↔ (o ≡ some x)
+      go none h = (λ e. absurd (done-refused (sym (h .answer) ∙ e)), λ e. absurd (not-none (sym e)))
+      go (some y) h = (λ e. ap some (ap number (sym (h .answer) ∙ e)), λ e. h .answer ∙ ap Refused (ap (held y) e))
+
+  -- **refused-listed**: its number is one of the document's list, so that what is true of all of those is true of it.
+  pub refused-listed : (P : ℤ → Type 0) → Each P table → (x : ℤ) → g .reply .answer ≡ Refused x → P x
+  refused-listed P p x e = listed P c (handed (a .sound) s (l .memory .bytes)) p (refused-exactly (a .sound) (a .decided) x .0 e)
 
   -- **refused-unchanged**: a refused call leaves state and memory as they were.
-  pub refused-unchanged : (x : ℤ) → r .answer ≡ Refused x → (r .state ≡ s) × (n ≡ m)
-  refused-unchanged x e = go (first (rows c (handed (a .sound) s m))) (by (a .sound) (a .decided))
+  pub refused-unchanged : (x : ℤ) → g .reply .answer ≡ Refused x → (g .reply .state ≡ s) × (g .memory ≡ l .memory .bytes)
+  refused-unchanged x e = go (says c s l (a .sound)) (by (a .sound) (a .decided))
     where
-      go : (o : Option ℤ) → By c s m r n (a .sound) o → (r .state ≡ s) × (n ≡ m)
-      go none g = absurd (done-refused (sym (g .answer) ∙ e))
-      go (some y) g = (g .state, g .memory)
+      go : (o : Option ℤ) → By c s l g (a .sound) o → (g .reply .state ≡ s) × (g .memory ≡ l .memory .bytes)
+      go none h = absurd (done-refused (sym (h .answer) ∙ e))
+      go (some y) h = (h .state, h .memory)
 
-  -- **takes-effect**: a legal call takes effect: it is no refusal, and the next state is the model's.
-  pub takes-effect : Sound s → first (rows c (handed true s m)) ≡ none → TookEffect (effect c (seen s) m) r n
-  takes-effect h e =
-      let g : By c s m r n true none = subst (By c s m r n true) e (by true (λ t. h, λ w. refl)) in
-      record { answer = g .answer; state = g .state; memory = g .memory }
+  -- **takes-effect**: a legal call takes effect: it is no refusal, and the next state, the memory and what is handed back are the model's.
+  pub takes-effect : Sound s → says c s l true ≡ none → TookEffect (effect c (seen s) (l .memory .bytes)) l g
+  takes-effect w e =
+      let h : By c s l g true none = subst (By c s l g true) e (by true (λ t. w, λ z. refl)) in
+      record { answer = h .answer; state = h .state; memory = h .memory; shown = h .shown }
 
   -- **call-sound**: each call on a sound state leaves a sound one.
-  module _ (t : of-tasks c ≡ true) (h : Sound s) where
-    next-good : first (rows c (handed true s m)) ≡ none → Good (effect c (seen s) m .kernel)
-    next-good = effect-good c t (seen s) m (h .good)
+  module _ (w : Sound s) where
+    next-good : says c s l true ≡ none → Good (effect c (seen s) (l .memory .bytes) .kernel)
+    next-good = effect-good c (seen s) (l .memory .bytes) (w .good)
 
-    pub call-sound : Sound (r .state)
-    call-sound = go (first (rows c (handed true s m))) refl (by true (λ t. h, λ w. refl))
+    pub call-sound : Sound (g .reply .state)
+    call-sound = go (says c s l true) refl (by true (λ t. w, λ z. refl))
       where
-        go : (o : Option ℤ) → first (rows c (handed true s m)) ≡ o → By c s m r n true o → Sound (r .state)
-        go none e g = record { filed = g .state .kept .filed; good = subst Good (sym (g .state .is)) (next-good e) }
-        go (some x) e g = subst Sound (sym (g .state)) h
+        go : (o : Option ℤ) → says c s l true ≡ o → By c s l g true o → Sound (g .reply .state)
+        go none e h = record { filed = h .state .kept .filed; good = subst Good (sym (h .state .is)) (next-good e) }
+        go (some x) e h = subst Sound (sym (h .state)) w
 
--- **one-outcome**: any two outcomes that a call's promise permits are equal: answer, state, running task and memory.
-pub one-outcome : {c : Call} {s : State} {m n n′ : List ℕ} {r r′ : Reply} → of-tasks c ≡ true → Answered c s m r n → Answered c s m r′ n′ → (r ≡ r′) × (n ≡ n′)
-one-outcome {c} {s} {m} {n} {n′} {r} {r′} t a b = go (first (rows c (handed (a .sound) s m))) refl (by a (a .sound) (a .decided)) (by b (a .sound) (a .decided))
+-- **one-outcome**: any two outcomes that a call's promise permits are equal: answer, state, running task, memory, and the slice handed back
+-- with its place.
+pub one-outcome : {c : Call} {s : State} {l : Loan} {g g′ : Given} → Answered c s l g → Answered c s l g′ → g ≡ g′
+one-outcome {c} {s} {l} {g} {g′} a b = go (says c s l (a .sound)) refl (by a (a .sound) (a .decided)) (by b (a .sound) (a .decided))
   where
-    same : r .answer ≡ r′ .answer → r .state ≡ r′ .state → r .running ≡ r .state .running → r′ .running ≡ r′ .state .running → r ≡ r′
-    same e f u v = let w : r .running ≡ r′ .running = u ∙ ap (λ (x : State). x .running) f ∙ sym v in λ i. record { state = f i; answer = e i; running = w i }
+    replied : g .reply .answer ≡ g′ .reply .answer → g .reply .state ≡ g′ .reply .state → g .reply .running ≡ g .reply .state .running
+        → g′ .reply .running ≡ g′ .reply .state .running
+        → g .reply ≡ g′ .reply
+    replied e f u v =
+        let w : g .reply .running ≡ g′ .reply .running = u ∙ ap (λ (x : State). x .running) f ∙ sym v in
+        λ i. record { state = f i; answer = e i; running = w i }
 
-    go : (o : Option ℤ) → first (rows c (handed (a .sound) s m)) ≡ o → By c s m r n (a .sound) o → By c s m r′ n′ (a .sound) o → (r ≡ r′) × (n ≡ n′)
-    go (some x) e g h = (same (g .answer ∙ sym (h .answer)) (g .state ∙ sym (h .state)) (g .running) (h .running), g .memory ∙ sym (h .memory))
-    go none e g h =
-        let truth = allowed (handed (a .sound) s m) c e .sound in
+    same : (o : Option ℤ) → By c s l g (a .sound) o → By c s l g′ (a .sound) o → g .reply .state ≡ g′ .reply .state → g ≡ g′
+    same o h k states =
+        let replies = replied (h .answer ∙ sym (k .answer)) states (h .running) (k .running) in
+        let memories = h .memory ∙ sym (k .memory) in
+        let slices = h .shown ∙ sym (k .shown) in
+        λ i. record { reply = replies i; memory = memories i; shown = slices i }
+
+    go : (o : Option ℤ) → says c s l (a .sound) ≡ o → By c s l g (a .sound) o → By c s l g′ (a .sound) o → g ≡ g′
+    go (some x) e h k = same (some x) h k (h .state ∙ sym (k .state))
+    go none e h k =
+        let truth = allowed (handed (a .sound) s (l .memory .bytes)) c e .sound in
         let sound = a .decided .0 truth in
-        let sized = next-good a t sound (subst (λ (z : Bool). first (rows c (handed z s m)) ≡ none) truth e) .sized in
-        (same (g .answer ∙ sym (h .answer)) (shows-once (sized .tasks) (sized .queues) (g .state) (h .state)) (g .running) (h .running), g .memory ∙ sym (h .memory))
+        let sized = next-good a sound (subst (λ (z : Bool). says c s l z ≡ none) truth e) .sized in
+        same none h k (shows-once (sized .tasks) (sized .queues) (h .state) (k .state))

@@ -10,7 +10,8 @@ ghost use Rattle.kernel.specs.Status.{status-number};
 ghost use Rattle.kernel.specs.Kernel.{task, hard};
 ghost use Rattle.kernel.specs.Refusals.{Row, -8, when, main-runs, hard-runs, no-task-in-use};
 ghost use Rattle.kernel.specs.Seen.{seen};
-ghost use Rattle.refusals.specs.Tested.{number-of, Tested, Passed};
+ghost use Rattle.refusals.specs.declared.Verdict.the-variants.{Passes};
+ghost use Rattle.refusals.specs.Tested.{number-of, refuses, Tested, of-every, of-lent};
 use kernel::Answer;
 use kernel::Reply;
 use kernel::State;
@@ -25,7 +26,7 @@ pub enum Verdict {
 
 // The rows of every call.
 pub fn every_call(s: State) -> Verdict
-    ensures { λ r. ⌜ Tested [] s r ⌝ }
+    ensures { λ r. ⌜ Tested (of-every s []) s r ⌝ }
 {
     if !soundness::sound(s) {
         return Verdict::Refuses(State::NOT_SOUND);
@@ -41,9 +42,20 @@ pub fn every_call(s: State) -> Verdict
     Verdict::Passes
 }
 
+// The rows of every call that is lent a memory, here of so many bytes: that row answers before the others.
+pub fn lent_call(s: State, memory: usize) -> Verdict
+    ensures { λ r. ⌜ Tested (of-lent s memory []) s r ⌝ }
+{
+    let every = every_call(s);
+    if memory != State::MEMORY_SIZE {
+        return Verdict::Refuses(State::WRONG_MEMORY);
+    }
+    every
+}
+
 // One row more, behind those that said v.
 pub fn row(v: Verdict, number: i64, applies: bool) -> Verdict
-    ensures { λ r. ⌜ ((own : List Row) (s : State) (b : Bool) → Tested own s v → (Passed own s → applies ≡ b) → Tested (own ++ when number b ∷ []) s r) ⌝ }
+    ensures { λ r. ⌜ ((those : Bool → List Row) (s : State) (b : Bool) → Tested those s v → (Tested those s Passes → applies ≡ b) → Tested (λ z. those z ++ when number b ∷ []) s r) ⌝ }
 {
     match v {
         Verdict::Refuses(n) => v,
@@ -99,7 +111,7 @@ pub fn hard_runs(s: State) -> bool
 
 // What task 0 may not ask: the rows of every call, and -8 where it runs.
 pub fn not_by_main(s: State) -> Verdict
-    ensures { λ r. ⌜ Tested (when -8 (main-runs (seen s)) ∷ []) s r ⌝ }
+    ensures { λ r. ⌜ Tested (of-every s (when -8 (main-runs (seen s)) ∷ [])) s r ⌝ }
 {
     let every = every_call(s);
     let main = main_runs(s);
@@ -116,8 +128,17 @@ pub fn no_task_in_use(s: State, n: usize) -> bool
     status_of(s, n) == Status::FREE
 }
 
-// The number of a refusal, 0 where there is none.
-fn number(v: Verdict) -> i64
+// Whether it is a refusal, and its number, 0 where it is none.
+pub fn refuses(v: Verdict) -> bool
+    ensures { λ r. ⌜ r ≡ refuses v ⌝ }
+{
+    match v {
+        Verdict::Passes => false,
+        Verdict::Refuses(_) => true,
+    }
+}
+
+pub fn number(v: Verdict) -> i64
     ensures { λ r. ⌜ r ≡ number-of v ⌝ }
 {
     match v {

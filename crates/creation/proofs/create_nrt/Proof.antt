@@ -25,7 +25,8 @@ number c κs =
     omega arith
 
 refuses : tie.Need-returns
-refuses c = let v = c .before in rw (c .refuse .ensures) (refused (v .before .before .may-create-nrt .ensures) (v .enum-told .given .1))
+unfolding effect
+refuses c = let v = c .before in rw (c .refuse .ensures) (refused (v .before .before .may-create-nrt .ensures) (v .enum-told .given .1) (λ m. refl))
 
 takes-effect : tie.Need-returns-2
 unfolding effect

@@ -1,5 +1,5 @@
 -- The rows of create HARD, in their order. Assumes nothing.
-use mathlib.Core.Path.{refl, ap}
+use mathlib.Core.Path.{ap}
 use mathlib.Core.Bool.{not}
 use Prim.Native.Nat.{ℕ}
 use lib.Dec.{eqb}
@@ -7,7 +7,7 @@ use borrow.Author.Needs.{needs}
 use borrow.Author.Tests.{not-false}
 use Rattle.kernel.specs.Sizes.{task-count}
 use Rattle.kernel.proofs.Allowed.{sizes-fit}
-use Rattle.refusals.proofs.Says.{none-own, settled}
+use Rattle.refusals.proofs.Says.{none-of}
 use Rattle.creation.proofs.may_create_hard.Statement.{statement}
 use Rattle.creation.proofs.may_create_hard.Tie as tie
 
@@ -23,7 +23,7 @@ table c =
     let s = k .args .s in
     let first = seven .row .ensures _ s _ (every .every-call .ensures) (λ p. ap not (fit .fit .ensures)) in
     let second = four .row2 .ensures _ s _ first (λ p. ap (λ (n : ℕ). eqb n task-count) (free .lowest-free .ensures)) in
-    settled (c .row3 .ensures _ s _ second (λ p. share .too-much .ensures (sizes-fit (k .args .period) (k .args .cost) (not-false _ (none-own p .0))))) (λ b m. refl)
+    λ m. record { tested = c .row3 .ensures _ s _ second (λ p. share .too-much .ensures (sizes-fit (k .args .period) (k .args .cost) (not-false _ (none-of p .1 .1 .1 .0)))) }
 
 pub may-create-hard-spec : {M : Type 1} → statement M
 may-create-hard-spec =

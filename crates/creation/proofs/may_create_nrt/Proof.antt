@@ -4,7 +4,6 @@ use Prim.Native.Nat.{ℕ}
 use lib.Dec.{eqb}
 use borrow.Author.Needs.{needs}
 use Rattle.kernel.specs.Sizes.{task-count}
-use Rattle.refusals.proofs.Says.{settled}
 use Rattle.creation.proofs.may_create_nrt.Statement.{statement}
 use Rattle.creation.proofs.may_create_nrt.Tie as tie
 
@@ -15,7 +14,7 @@ table c =
     let every = seven .before in
     let s = every .before .args .s in
     let first = seven .row .ensures _ s _ (every .every-call .ensures) (λ p. refl) in
-    settled (c .row2 .ensures _ s _ first (λ p. ap (λ (n : ℕ). eqb n task-count) (free .lowest-free .ensures))) (λ b m. refl)
+    λ m. record { tested = c .row2 .ensures _ s _ first (λ p. ap (λ (n : ℕ). eqb n task-count) (free .lowest-free .ensures)) }
 
 pub may-create-nrt-spec : {M : Type 1} → statement M
 may-create-nrt-spec =

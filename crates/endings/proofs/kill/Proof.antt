@@ -10,7 +10,8 @@ may : tie.Need-killed-requires
 may c κs = legal (c .before .before .may-kill .ensures) (c .enum-told2 .given .1)
 
 refuses : tie.Need-returns
-refuses c = let v = c .before in rw (c .refuse .ensures) (refused (v .before .before .may-kill .ensures) (v .enum-told .given .1))
+unfolding effect
+refuses c = let v = c .before in rw (c .refuse .ensures) (refused (v .before .before .may-kill .ensures) (v .enum-told .given .1) (λ m. refl))
 
 takes-effect : tie.Need-returns-2
 unfolding effect

@@ -4,7 +4,6 @@ use Prim.Native.Nat.{ℕ}
 use lib.Dec.{eqb}
 use borrow.Author.Needs.{needs}
 use Rattle.kernel.specs.Status.{ZOMBIE}
-use Rattle.refusals.proofs.Says.{settled}
 use Rattle.endings.proofs.may_kill.Statement.{statement}
 use Rattle.endings.proofs.may_kill.Tie as tie
 
@@ -18,7 +17,7 @@ table c =
     let s = every .before .args .s in
     let first = eight .row .ensures _ s _ (every .every-call .ensures) (λ p. refl) in
     let second = six .row2 .ensures _ s _ first (λ p. unused .no-task-in-use .ensures) in
-    settled (c .row3 .ensures _ s _ second (λ p. ap (λ (n : ℕ). eqb n ZOMBIE) (status .status-of .ensures))) (λ b m. refl)
+    λ m. record { tested = c .row3 .ensures _ s _ second (λ p. ap (λ (n : ℕ). eqb n ZOMBIE) (status .status-of .ensures)) }
 
 pub may-kill-spec : {M : Type 1} → statement M
 may-kill-spec =

@@ -5,13 +5,12 @@ use mir.Facts.{toZ-pos}
 use mir.Syntax.{w64}
 use borrow.Author.Needs.{needs}
 use Rattle.kernel.specs.Calls.{effect}
-use Rattle.refusals.proofs.Says.{settled}
 use Rattle.questions.proofs.clock.Statement.{statement}
 use Rattle.questions.proofs.clock.Tie as tie
 
 answers : tie.Need-returns
 unfolding effect
-answers c = c .answer .ensures _ _ (settled (c .before .every-call .ensures) (λ b m. refl)) (toZ-pos w64 (omega arith)) (λ m. refl)
+answers c = c .answer .ensures _ _ (λ m. record { tested = c .before .every-call .ensures }) (toZ-pos w64 (omega arith)) (λ m. refl)
 
 pub clock-spec : {M : Type 1} → statement M
 clock-spec = tie.close (tie.spec (λ c κs. search needs) (λ c. search needs) (λ c κs. search needs) answers)

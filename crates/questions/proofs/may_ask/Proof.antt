@@ -1,7 +1,5 @@
 -- The row of deadline and of slack. Assumes nothing.
-use mathlib.Core.Path.{refl}
 use borrow.Author.Needs.{needs}
-use Rattle.refusals.proofs.Says.{settled}
 use Rattle.questions.proofs.may_ask.Statement.{statement}
 use Rattle.questions.proofs.may_ask.Tie as tie
 
@@ -10,7 +8,7 @@ table c =
     let unused = c .before in
     let every = unused .before in
     let t = c .row .ensures _ (every .before .args .s) _ (every .every-call .ensures) (λ p. unused .no-task-in-use .ensures) in
-    (settled t (λ b m. refl), settled t (λ b m. refl))
+    (λ m. record { tested = t }, λ m. record { tested = t })
 
 pub may-ask-spec : {M : Type 1} → statement M
 may-ask-spec = tie.close (tie.spec (λ c κs. search needs) (λ c κs. search needs) (λ c κs. search needs) table)

@@ -1,7 +1,5 @@
 -- The rows of period, in their order. Assumes nothing.
-use mathlib.Core.Path.{refl}
 use borrow.Author.Needs.{needs}
-use Rattle.refusals.proofs.Says.{settled}
 use Rattle.questions.proofs.may_ask_period.Statement.{statement}
 use Rattle.questions.proofs.may_ask_period.Tie as tie
 
@@ -12,9 +10,7 @@ table c =
     let nrt = eight .before in
     let every = nrt .before in
     let s = every .before .args .s in
-    settled
-    (c .row2 .ensures _ s _ (eight .row .ensures _ s _ (every .every-call .ensures) (λ p. nrt .no-period .ensures)) (λ p. unused .no-task-in-use .ensures))
-    (λ b m. refl)
+    λ m. record { tested = c .row2 .ensures _ s _ (eight .row .ensures _ s _ (every .every-call .ensures) (λ p. nrt .no-period .ensures)) (λ p. unused .no-task-in-use .ensures) }
 
 pub may-ask-period-spec : {M : Type 1} → statement M
 may-ask-period-spec = tie.close (tie.spec (λ c κs. search needs) (λ c κs. search needs) (λ c κs. search needs) (λ c κs. search needs) (λ c κs. search needs) table)

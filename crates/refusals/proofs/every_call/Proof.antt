@@ -10,7 +10,7 @@ unsound : tie.Need-returns
 unsound c =
     let f = c .before in
     let b : f .sound .result ≡ false = not-true _ (c .if1 .taken) in
-    record { sound = f .sound .result; decided = f .sound .ensures; says = λ m. rw b refl }
+    record { sound = f .sound .result; decided = f .sound .ensures; says = rw b refl }
 
 overrun : tie.Need-returns-2
 overrun c =
@@ -18,7 +18,7 @@ overrun c =
     let f = g .before .before in
     let b : f .sound .result ≡ true = not-false _ (g .before .if1 .left) in
     let one = eq-eqb _ _ (sym (g .stop-number .ensures) ∙ c .if2 .taken) in
-    record { sound = f .sound .result; decided = f .sound .ensures; says = λ m. rw (b, one) refl }
+    record { sound = f .sound .result; decided = f .sound .ensures; says = rw (b, one) refl }
 
 lifetime : tie.Need-returns-3
 lifetime c =
@@ -27,7 +27,7 @@ lifetime c =
     let b : f .sound .result ≡ true = not-false _ (g .before .if1 .left) in
     let one = ne-eqb _ _ (λ e. c .before .if2 .left (g .stop-number .ensures ∙ e)) in
     let two = eq-eqb _ _ (sym (g .stop-number .ensures) ∙ c .if3 .taken) in
-    record { sound = f .sound .result; decided = f .sound .ensures; says = λ m. rw (b, one, two) refl }
+    record { sound = f .sound .result; decided = f .sound .ensures; says = rw (b, one, two) refl }
 
 going : tie.Need-returns-4
 going c =
@@ -36,7 +36,7 @@ going c =
     let b : f .sound .result ≡ true = not-false _ (g .before .if1 .left) in
     let one = ne-eqb _ _ (λ e. c .before .if2 .left (g .stop-number .ensures ∙ e)) in
     let two = ne-eqb _ _ (λ e. c .if3 .left (g .stop-number .ensures ∙ e)) in
-    record { sound = f .sound .result; decided = f .sound .ensures; says = λ m. rw (b, one, two) refl }
+    record { sound = f .sound .result; decided = f .sound .ensures; says = rw (b, one, two) refl }
 
 pub every-call-spec : {M : Type 1} → statement M
 every-call-spec = tie.close (tie.spec (λ c κs. search needs) unsound (λ c κs. search needs) overrun lifetime going)

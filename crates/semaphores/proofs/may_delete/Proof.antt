@@ -1,7 +1,5 @@
 -- The rows of delete, in their order. Assumes nothing.
-use mathlib.Core.Path.{refl}
 use borrow.Author.Needs.{needs}
-use Rattle.refusals.proofs.Says.{settled}
 use Rattle.semaphores.proofs.may_delete.Statement.{statement}
 use Rattle.semaphores.proofs.may_delete.Tie as tie
 
@@ -12,9 +10,7 @@ table c =
     let unused = six .before in
     let every = unused .before in
     let s = every .before .args .s in
-    settled
-    (c .row2 .ensures _ s _ (six .row .ensures _ s _ (every .every-call .ensures) (λ p. unused .no-semaphore .ensures)) (λ p. waited .has-waiters .ensures))
-    (λ b m. refl)
+    λ m. record { tested = c .row2 .ensures _ s _ (six .row .ensures _ s _ (every .every-call .ensures) (λ p. unused .no-semaphore .ensures)) (λ p. waited .has-waiters .ensures) }
 
 pub may-delete-spec : {M : Type 1} → statement M
 may-delete-spec = tie.close (tie.spec (λ c κs. search needs) (λ c κs. search needs) (λ c κs. search needs) (λ c κs. search needs) (λ c κs. search needs) table)

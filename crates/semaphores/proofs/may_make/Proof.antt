@@ -4,7 +4,6 @@ use Prim.Native.Nat.{ℕ}
 use lib.Dec.{eqb}
 use borrow.Author.Needs.{needs}
 use Rattle.kernel.specs.Sizes.{semaphore-count}
-use Rattle.refusals.proofs.Says.{settled}
 use Rattle.semaphores.proofs.may_make.Statement.{statement}
 use Rattle.semaphores.proofs.may_make.Tie as tie
 
@@ -14,9 +13,7 @@ table c =
     let seven = lowest .before in
     let every = seven .before in
     let s = every .before .args .s in
-    settled
-    (c .row2 .ensures _ s _ (seven .row .ensures _ s _ (every .every-call .ensures) (λ p. refl)) (λ p. ap (λ (n : ℕ). eqb n semaphore-count) (lowest .lowest .ensures)))
-    (λ b m. refl)
+    λ m. record { tested = c .row2 .ensures _ s _ (seven .row .ensures _ s _ (every .every-call .ensures) (λ p. refl)) (λ p. ap (λ (n : ℕ). eqb n semaphore-count) (lowest .lowest .ensures)) }
 
 pub may-make-spec : {M : Type 1} → statement M
 may-make-spec =

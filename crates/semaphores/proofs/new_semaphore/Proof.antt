@@ -15,7 +15,8 @@ number : tie.Need-done-with-requires
 number c κs = let n = c .before .lowest .ensures in omega (arith, room (may (c .before) tt .0))
 
 refuses : tie.Need-returns
-refuses c = let v = c .before in rw (c .refuse .ensures) (refused (v .before .before .may-make .ensures) (v .enum-told .given .1))
+unfolding effect
+refuses c = let v = c .before in rw (c .refuse .ensures) (refused (v .before .before .may-make .ensures) (v .enum-told .given .1) (λ m. refl))
 
 takes-effect : tie.Need-returns-2
 unfolding effect

@@ -1,11 +1,10 @@
 -- The rows of activate, in their order. Assumes nothing.
-use mathlib.Core.Path.{refl, ap}
+use mathlib.Core.Path.{ap}
 use mathlib.Core.Bool.{not}
 use Prim.Native.Nat.{ℕ}
 use lib.Dec.{eqb}
 use borrow.Author.Needs.{needs}
 use Rattle.kernel.specs.Status.{SLEEP}
-use Rattle.refusals.proofs.Says.{settled}
 use Rattle.tasks.proofs.may_activate.Statement.{statement}
 use Rattle.tasks.proofs.may_activate.Tie as tie
 
@@ -16,9 +15,7 @@ table c =
     let unused = six .before in
     let every = unused .before in
     let s = every .before .args .s in
-    settled
-    (c .row2 .ensures _ s _ (six .row .ensures _ s _ (every .every-call .ensures) (λ p. unused .no-task-in-use .ensures)) (λ p. ap (λ (n : ℕ). not (eqb n SLEEP)) (status .status-of .ensures)))
-    (λ b m. refl)
+    λ m. record { tested = c .row2 .ensures _ s _ (six .row .ensures _ s _ (every .every-call .ensures) (λ p. unused .no-task-in-use .ensures)) (λ p. ap (λ (n : ℕ). not (eqb n SLEEP)) (status .status-of .ensures)) }
 
 pub may-activate-spec : {M : Type 1} → statement M
 may-activate-spec = tie.close (tie.spec (λ c κs. search needs) (λ c κs. search needs) (λ c κs. search needs) (λ c κs. search needs) (λ c κs. search needs) table)

@@ -2,22 +2,22 @@
 use mathlib.Core.Path.{refl}
 use borrow.Author.Needs.{needs}
 use Rattle.kernel.specs.Calls.{effect}
-use Rattle.refusals.proofs.Says.{settled}
 use Rattle.refusals.proofs.Answers.{legal, refused, took-effect}
 use Rattle.tasks.proofs.sleep.Statement.{statement}
 use Rattle.tasks.proofs.sleep.Tie as tie
 
 may : tie.Need-slept-requires
-may c κs = legal (settled (c .before .before .not-by-main .ensures) (λ b m. refl)) (c .enum-told2 .given .1)
+may c κs = legal (λ m. record { tested = c .before .before .not-by-main .ensures }) (c .enum-told2 .given .1)
 
 refuses : tie.Need-returns
-refuses c = let v = c .before in rw (c .refuse .ensures) (refused (settled (v .before .before .not-by-main .ensures) (λ b m. refl)) (v .enum-told .given .1))
+unfolding effect
+refuses c = let v = c .before in rw (c .refuse .ensures) (refused (λ m. record { tested = v .before .before .not-by-main .ensures }) (v .enum-told .given .1) (λ m. refl))
 
 takes-effect : tie.Need-returns-2
 unfolding effect
 takes-effect c =
     let e = c .before .before in
-    rw (c .done .ensures) (took-effect (settled (e .before .before .not-by-main .ensures) (λ b m. refl)) (e .enum-told2 .given .1) (λ m. refl) (c .before .slept .ensures))
+    rw (c .done .ensures) (took-effect (λ m. record { tested = e .before .before .not-by-main .ensures }) (e .enum-told2 .given .1) (λ m. refl) (c .before .slept .ensures))
 
 pub sleep-spec : {M : Type 1} → statement M
 sleep-spec =
