@@ -12,3 +12,4 @@ pub mod Deadlines
 pub mod Shares
 pub mod Lowest
 pub mod Places
+pub mod Over

@@ -1,0 +1,2 @@
+-- What is written through a part of the memory.
+pub mod Through
