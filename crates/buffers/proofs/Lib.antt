@@ -1,0 +1,2 @@
+-- Facts behind the search for a free buffer.
+pub mod Sessions
