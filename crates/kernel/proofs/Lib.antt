@@ -13,3 +13,4 @@ pub mod Shares
 pub mod Lowest
 pub mod Places
 pub mod Over
+pub mod Messages

@@ -1,0 +1,3 @@
+-- What the first rows of a call on a channel say, and the buffer that a session holds.
+pub mod Passed
+pub mod Holds

@@ -1,0 +1,2 @@
+-- What the calls on an open channel need.
+pub mod Session
