@@ -1,0 +1,2 @@
+-- Facts about pieces.
+pub mod Past
