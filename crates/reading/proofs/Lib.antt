@@ -1,0 +1,2 @@
+-- From the verdict to the promise of a showing.
+pub mod HandsBack

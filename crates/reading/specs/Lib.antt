@@ -1,0 +1,2 @@
+-- What a showing hands back.
+pub mod Message
