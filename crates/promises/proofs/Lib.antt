@@ -2,3 +2,5 @@
 pub mod Answers
 pub mod Before
 pub mod Earliest
+pub mod Memory
+pub mod Showings
