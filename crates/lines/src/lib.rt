@@ -18,7 +18,7 @@ pub fn number(n: u64) {
     io::print_decimal(STDOUT_FILENO, n);
 }
 
-fn signed(n: i64) {
+pub fn signed(n: i64) {
     if n < 0 {
         write(b"-");
         let below = -1 - n;
