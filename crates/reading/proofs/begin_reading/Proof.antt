@@ -8,8 +8,8 @@ use Rattle.kernel.specs.Channels.{newest, with-own, begin-reading}
 use Rattle.kernel.specs.Calls.{effect}
 use Rattle.kernel.specs.Seen.{seen}
 use Rattle.kernel.specs.Shows.{Shows}
-use Rattle.kernel.proofs.Shows.{kept}
 use Rattle.refusals.proofs.Answers.{lets-pass, lent-refused, lent-took-effect}
+use Rattle.channels.proofs.Holds.{can-change}
 use Rattle.reading.proofs.begin_reading.Statement.{statement}
 use Rattle.reading.proofs.begin_reading.Tie as tie
 
@@ -18,7 +18,7 @@ opens c κs =
     let e = c .before .before in
     let v = e .before .before in
     let g = lets-pass (v .may-begin .ensures (v .before .before .args .memory .now) refl) (e .enum-told2 .given .1) in
-    (kept (g .sound), (g .allowed .1 .0, g .sound .good .runs .running))
+    can-change (g .sound) (g .allowed .1 .0)
 
 refuses : tie.Need-returns
 unfolding effect

@@ -4,10 +4,10 @@ use borrow.Author.Needs.{needs}
 use Rattle.kernel.specs.Channels as Channels
 use Rattle.kernel.specs.Calls as Calls
 use Rattle.kernel.specs.Calls.{effect}
-use Rattle.kernel.proofs.Shows.{kept}
 use Rattle.refusals.specs.Tested.{Judged}
 use Rattle.refusals.proofs.Says.{of-length}
 use Rattle.refusals.proofs.Answers.{lets-pass, lent-refused, lent-took-effect}
+use Rattle.channels.proofs.Holds.{can-change}
 use Rattle.reading.proofs.close.Statement.{statement}
 use Rattle.reading.proofs.close.Tie as tie
 
@@ -19,7 +19,7 @@ judged : (c : tie.After-on-channel) → Judged (Calls.close (k c .args .channel 
 judged c = record { tested = of-length (c .on-channel .ensures) (k c .args .memory .now) refl }
 
 ends : tie.Need-with-own-requires
-ends c κs = let g = lets-pass (judged (c .before .before)) (c .enum-told2 .given .1) in (kept (g .sound), (g .allowed .1 .0, g .sound .good .runs .running))
+ends c κs = let g = lets-pass (judged (c .before .before)) (c .enum-told2 .given .1) in can-change (g .sound) (g .allowed .1 .0)
 
 refuses : tie.Need-returns
 unfolding effect

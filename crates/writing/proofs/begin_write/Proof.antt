@@ -7,8 +7,8 @@ use Rattle.kernel.specs.Calls as Calls
 use Rattle.kernel.specs.Calls.{effect}
 use Rattle.kernel.specs.Seen.{seen}
 use Rattle.kernel.proofs.Messages.{most, inside, taken}
-use Rattle.kernel.proofs.Shows.{kept}
 use Rattle.refusals.proofs.Answers.{LetsPass, lets-pass, lent-refused, lent-took-effect}
+use Rattle.channels.proofs.Holds.{can-change}
 use Rattle.writing.proofs.begin_write.Statement.{statement}
 use Rattle.writing.proofs.begin_write.Tie as tie
 
@@ -42,7 +42,7 @@ fits c κs =
 opens : tie.Need-with-own-requires
 opens c κs =
     let g = may (c .before .before .before .before .before .before .before .before) in
-    (kept (g .sound), (g .allowed .1 .0, g .sound .good .runs .running))
+    can-change (g .sound) (g .allowed .1 .0)
 
 refuses : tie.Need-returns
 unfolding effect

@@ -4,13 +4,13 @@ use borrow.Author.Needs.{needs}
 use Rattle.kernel.specs.declared.Latest.the-variants.{Buffer}
 use Rattle.kernel.specs.Kernel.{Kernel, with-channel}
 use Rattle.kernel.specs.Channels.{own, buffer, with-own, put}
-use Rattle.kernel.proofs.Shows.{kept, then}
-use Rattle.channels.proofs.Holds.{is-task}
+use Rattle.kernel.proofs.Shows.{then}
+use Rattle.channels.proofs.Holds.{can-change, is-task}
 use Rattle.writing.proofs.published.Statement.{statement}
 use Rattle.writing.proofs.published.Tie as tie
 
 ends : tie.Need-with-own-requires
-ends c κs = let h = c .before .before .before .pre in (kept (h .sound), (h .is-channel, is-task h))
+ends c κs = let h = c .before .before .before .pre in can-change (h .sound) (h .is-channel)
 
 stores : tie.Need-store-requires
 stores c κs = (c .with-own .ensures .kept, c .before .before .before .before .pre .is-channel)
