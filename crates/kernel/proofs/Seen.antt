@@ -22,7 +22,8 @@ task-seen s x = List·getD-map bare (s .tasks) x past
 pub task-past : (s : State) (x : ℕ) → length (s .tasks) ≡ task-count → task-count ≤ x → task (seen s) x ≡ blank
 task-past s x long out = task-seen s x ∙ ap bare (List·getD-eq-default (s .tasks) past (omega arith))
 
-within : {A B : Type 0} (f : A → B) (l : List A) (i : ℕ) (a : A) (b : B) → i < length l → getD (map f l) i b ≡ f (getD l i a)
+-- A map holds at each number what the list holds there, whatever is read past the end.
+pub within : {A B : Type 0} (f : A → B) (l : List A) (i : ℕ) (a : A) (b : B) → i < length l → getD (map f l) i b ≡ f (getD l i a)
 within f [] i a b h = absurd (omega arith)
 within f (x ∷ xs) zero a b h = refl
 within f (x ∷ xs) (suc i) a b h = within f xs i a b (omega arith)

@@ -1,4 +1,5 @@
 -- The theorems over all calls.
+pub mod States
 pub mod Answers
 pub mod Before
 pub mod Earliest
