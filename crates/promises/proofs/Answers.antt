@@ -43,6 +43,12 @@ By c s l g b o = Gives (by-table o (effect c (seen s) (l .memory .bytes)) (hande
 abbrev pub says : Call → State → Loan → Bool → Option ℤ
 says c s l b = first (rows c (handed b s (l .memory .bytes)))
 
+-- Where no row applies, the state is sound, and the next kernel is good.
+pub next-good : (c : Call) (s : State) (l : Loan) (b : Bool) → (b ≡ true) ↔ Sound s → says c s l b ≡ none → Good (effect c (seen s) (l .memory .bytes) .kernel)
+next-good c s l b d e =
+    let truth = allowed (handed b s (l .memory .bytes)) c e .sound in
+    effect-good c (seen s) (l .memory .bytes) (d .0 truth .good) (subst (λ (t : Bool). says c s l t ≡ none) truth e)
+
 module _ {c : Call} {s : State} {l : Loan} {g : Given} (a : Answered c s l g) where
   -- The table is told truly, whoever tells it.
   pub by : (b : Bool) → (b ≡ true) ↔ Sound s → By c s l g b (says c s l b)
@@ -76,16 +82,15 @@ module _ {c : Call} {s : State} {l : Loan} {g : Given} (a : Answered c s l g) wh
       record { answer = h .answer; state = h .state; memory = h .memory; shown = h .shown }
 
   -- **call-sound**: each call on a sound state leaves a sound one.
-  module _ (w : Sound s) where
-    next-good : says c s l true ≡ none → Good (effect c (seen s) (l .memory .bytes) .kernel)
-    next-good = effect-good c (seen s) (l .memory .bytes) (w .good)
+  pub call-sound : Sound s → Sound (g .reply .state)
+  call-sound w = go (says c s l true) refl (by true truly)
+    where
+      truly : (true ≡ true) ↔ Sound s
+      truly = (λ t. w, λ z. refl)
 
-    pub call-sound : Sound (g .reply .state)
-    call-sound = go (says c s l true) refl (by true (λ t. w, λ z. refl))
-      where
-        go : (o : Option ℤ) → says c s l true ≡ o → By c s l g true o → Sound (g .reply .state)
-        go none e h = record { filed = h .state .kept .filed; good = subst Good (sym (h .state .is)) (next-good e) }
-        go (some x) e h = subst Sound (sym (h .state)) w
+      go : (o : Option ℤ) → says c s l true ≡ o → By c s l g true o → Sound (g .reply .state)
+      go none e h = record { filed = h .state .kept .filed; good = subst Good (sym (h .state .is)) (next-good c s l true truly e) }
+      go (some x) e h = subst Sound (sym (h .state)) w
 
 -- **one-outcome**: any two outcomes that a call's promise permits are equal: answer, state, running task, memory, and the slice handed back
 -- with its place.
@@ -109,7 +114,5 @@ one-outcome {c} {s} {l} {g} {g′} a b = go (says c s l (a .sound)) refl (by a (
     go : (o : Option ℤ) → says c s l (a .sound) ≡ o → By c s l g (a .sound) o → By c s l g′ (a .sound) o → g ≡ g′
     go (some x) e h k = same (some x) h k (h .state ∙ sym (k .state))
     go none e h k =
-        let truth = allowed (handed (a .sound) s (l .memory .bytes)) c e .sound in
-        let sound = a .decided .0 truth in
-        let sized = next-good a sound (subst (λ (z : Bool). says c s l z ≡ none) truth e) .sized in
+        let sized = next-good c s l (a .sound) (a .decided) e .sized in
         same none h k (shows-once (sized .tasks) (sized .queues) (h .state) (k .state))

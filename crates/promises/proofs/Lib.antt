@@ -1,6 +1,7 @@
 -- The theorems over all calls.
 pub mod States
 pub mod Answers
+pub mod Always
 pub mod Before
 pub mod Earliest
 pub mod Memory

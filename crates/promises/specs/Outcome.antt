@@ -1,9 +1,14 @@
--- What a legal call gives back. Assumes nothing.
+-- What a call gives back: a legal one, and any. Assumes nothing.
 use mathlib.Core.Path.{_≡_}
-use Rattle.kernel.specs.declared.Answer.the-variants.{Done}
-use Rattle.kernel.specs.Calls.{Effect}
+use mathlib.Core.Logic.{_⊎_}
+use mathlib.Core.List.{List, [], _∷_}
+use lib.IntN.{ℤ}
+use Rattle.kernel.specs.declared.Answer.the-variants.{Done, Refused}
+use Rattle.kernel.specs.declared.State.{State}
+use Rattle.kernel.specs.Calls.{Call, Effect}
+use Rattle.kernel.specs.Refusals.{table}
 use Rattle.kernel.specs.Shows.{Shows}
-use Rattle.kernel.specs.Promise.{handed-back, Loan, Given}
+use Rattle.kernel.specs.Promise.{handed-back, Loan, Given, Answered}
 
 -- What is given is what the effect e says: its number, no refusal, its kernel, its memory, and what it hands back.
 pub record TookEffect (e : Effect) (l : Loan) (g : Given) : Type 0 where
@@ -11,3 +16,15 @@ pub record TookEffect (e : Effect) (l : Loan) (g : Given) : Type 0 where
   pub state : Shows (g .reply .state) (e .kernel)
   pub memory : g .memory ≡ e .memory
   pub shown : g .shown ≡ handed-back (e .shown) l
+
+-- x is one of the numbers.
+abbrev pub OneOf : ℤ → List ℤ → Type 0
+OneOf x [] = ⊥
+OneOf x (n ∷ ns) = (n ≡ x) ⊎ OneOf x ns
+
+-- One outcome of the call c, and no other. Refused, its number is one of the document's list.
+pub record OneOutcome (c : Call) (s : State) (l : Loan) : Type 0 where
+  pub given : Given
+  pub answered : Answered c s l given
+  pub only : (g : Given) → Answered c s l g → g ≡ given
+  pub listed : (x : ℤ) → given .reply .answer ≡ Refused x → OneOf x table
