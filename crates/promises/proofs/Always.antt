@@ -1,6 +1,6 @@
 -- Every call has an outcome, and only one. Assumes nothing.
 use mathlib.Core.Path.{_≡_, refl}
-use mathlib.Core.Bool.{Bool, true}
+use mathlib.Core.Bool.{Bool, true, false}
 use mathlib.Core.Logic.{_↔_, inl, inr}
 use mathlib.Core.List.{List, [], _∷_}
 use mathlib.Core.Option.{Option, none, some}
@@ -14,8 +14,10 @@ use Rattle.kernel.specs.Seen.{seen}
 use Rattle.kernel.specs.Sound.{Sound}
 use Rattle.kernel.specs.Promise.{handed-back, unchanged, Loan, Given, Answered}
 use Rattle.kernel.proofs.Refusals.{Each}
+use Rattle.kernel.proofs.Decided.{yes as truly, no as untrue}
 use Rattle.promises.specs.Outcome.{OneOf, OneOutcome}
 use Rattle.promises.proofs.States.{state-of, shown}
+use Rattle.promises.proofs.Soundness.{sound?}
 use Rattle.promises.proofs.Answers.{By, says, next-good, refused-listed, one-outcome}
 
 -- Each number of a list is one of it.
@@ -49,3 +51,11 @@ module _ (c : Call) (s : State) (l : Loan) where
         only = λ g h. one-outcome h a;
         listed = refused-listed a (λ x. OneOf x table) (each-one-of _ table (λ x h. h));
       }
+
+-- **always-answers**: every call has one outcome and no other, whatever state, numbers and memory it is handed.
+pub always-answers : (c : Call) (s : State) (l : Loan) → OneOutcome c s l
+always-answers c s l = go (sound? s)
+  where
+    go : Dec (Sound s) → OneOutcome c s l
+    go (yes w) = always c s l true (truly w)
+    go (no n) = always c s l false (untrue n)

@@ -16,6 +16,7 @@ use Rattle.kernel.specs.Sound.{Sound}
 use Rattle.kernel.specs.Promise.{handed, Loan, Given, Gives, Answered}
 use Rattle.kernel.proofs.Refusals.{Each, listed}
 use Rattle.kernel.proofs.Rows.{not-none, held}
+use Rattle.kernel.proofs.Decided.{yes as truly}
 use Rattle.kernel.proofs.Allowed.{allowed}
 use Rattle.effects.proofs.Effects.{effect-good}
 use Rattle.queues.proofs.Determined.{shows-once}
@@ -78,18 +79,15 @@ module _ {c : Call} {s : State} {l : Loan} {g : Given} (a : Answered c s l g) wh
   -- **takes-effect**: a legal call takes effect: it is no refusal, and the next state, the memory and what is handed back are the model's.
   pub takes-effect : Sound s → says c s l true ≡ none → TookEffect (effect c (seen s) (l .memory .bytes)) l g
   takes-effect w e =
-      let h : By c s l g true none = subst (By c s l g true) e (by true (λ t. w, λ z. refl)) in
+      let h : By c s l g true none = subst (By c s l g true) e (by true (truly w)) in
       record { answer = h .answer; state = h .state; memory = h .memory; shown = h .shown }
 
   -- **call-sound**: each call on a sound state leaves a sound one.
   pub call-sound : Sound s → Sound (g .reply .state)
-  call-sound w = go (says c s l true) refl (by true truly)
+  call-sound w = go (says c s l true) refl (by true (truly w))
     where
-      truly : (true ≡ true) ↔ Sound s
-      truly = (λ t. w, λ z. refl)
-
       go : (o : Option ℤ) → says c s l true ≡ o → By c s l g true o → Sound (g .reply .state)
-      go none e h = record { filed = h .state .kept .filed; good = subst Good (sym (h .state .is)) (next-good c s l true truly e) }
+      go none e h = record { filed = h .state .kept .filed; good = subst Good (sym (h .state .is)) (next-good c s l true (truly w) e) }
       go (some x) e h = subst Sound (sym (h .state)) w
 
 -- **one-outcome**: any two outcomes that a call's promise permits are equal: answer, state, running task, memory, and the slice handed back

@@ -1,6 +1,8 @@
 -- The theorems over all calls.
 pub mod States
 pub mod Answers
+pub mod Decisions
+pub mod Soundness
 pub mod Always
 pub mod Before
 pub mod Earliest
