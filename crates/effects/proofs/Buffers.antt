@@ -1,22 +1,21 @@
 -- Which buffers the sessions on a channel hold, and what it asks that one task gets another session there. Assumes nothing.
-use mathlib.Core.Path.{_≡_, refl, ap, _∙_}
+use mathlib.Core.Path.{_≡_, refl, _∙_}
 use mathlib.Core.Logic.{inl, inr}
 use Prim.Native.Nat.{ℕ, _≤_, _<_}
 use native.Mathlib.Omega.{arith}
 use native.Mathlib.Decide.{ℕ-discrete}
 use lib.ListN.{length-set, set}
-use lib.Seq.{getD-set-same, getD-set-other}
 use Rattle.kernel.specs.declared.Channel.{Channel}
 use Rattle.kernel.specs.declared.Latest.the-variants.{Nothing, Buffer}
 use Rattle.kernel.specs.declared.Session.{Session}
 use Rattle.kernel.specs.declared.Session.the-variants.{Closed, Write, Reading}
 use Rattle.kernel.specs.Sizes.{task-count, channel-count, longest-message, fewest-buffers, most-buffers}
 use Rattle.kernel.specs.Status.{FREE, ZOMBIE, status-number}
-use Rattle.kernel.specs.Kernel.{Kernel, task, channel, session, unused-channel, slot, slot-number, with-channel, with-sessions}
+use Rattle.kernel.specs.Kernel.{Kernel, task, channel, session, slot, slot-number, with-channel, with-sessions}
 use Rattle.kernel.specs.Good.{GoodChannel, Opens}
-use Rattle.kernel.proofs.Places.{numbered}
+use Rattle.kernel.proofs.Stored.{channel-here, channel-there, session-here, session-there}
 use Rattle.effects.specs.UnderWay.{Steady}
-use Rattle.effects.proofs.Sessions.{busy, fewer, of-slot, channels-steady}
+use Rattle.effects.proofs.Sessions.{busy, fewer, channels-steady}
 
 -- What a channel with the record h asks of a session: its buffer is one of the channel's, a writer's is not the latest, and nothing is read before the first put.
 abbrev pub Suits : Channel → Session → Type 0
@@ -65,22 +64,16 @@ module _ {k : Kernel} (s : Steady k) (c : ℕ) (h : Channel) (t : ℕ) (z : Sess
   g : GoodChannel k c
   g = s .channels c l
 
-  channel-here : channel j c ≡ h
-  channel-here = getD-set-same (k .channels) c h unused-channel (omega (arith, s .sized .channels))
-
-  session-here : session j c t ≡ z
-  session-here = ap of-slot (getD-set-same (k .sessions) (slot-number c t) (slot z) (slot Closed) (omega (arith, s .sized .sessions)))
-
-  session-there : (d u : ℕ) → (slot-number d u ≡ slot-number c t → ⊥) → session j d u ≡ session k d u
-  session-there d u ne = ap of-slot (getD-set-other (k .sessions) (slot-number c t) (slot-number d u) (slot z) (slot Closed) ne)
+  record-here : channel j c ≡ h
+  record-here = channel-here (s .sized) c l h
 
   -- What holds of task t with z, and of each other one with its own session, holds of all.
   each : (P : ℕ → Session → Type 0) → P t z → ((u : ℕ) → u < task-count → (u ≡ t → ⊥) → P u (session k c u)) → (u : ℕ) → u < task-count → P u (session j c u)
   each P here there u lu = go (ℕ-discrete u t)
     where
       go : Dec (u ≡ t) → P u (session j c u)
-      go (yes e) = rw (e, session-here) here
-      go (no ne) = rw (session-there c u (λ e. ne (omega arith))) (there u lu ne)
+      go (yes e) = rw (e, session-here (s .sized) c l t lt z) here
+      go (no ne) = rw (session-there (s .sized) c l t lt z c u lu (λ e. ne (e .1))) (there u lu ne)
 
   -- And of two tasks.
   two : (P : ℕ → Session → ℕ → Session → Type 0) → P t z t z → ((u : ℕ) → u < task-count → (u ≡ t → ⊥) → P t z u (session k c u) × P u (session k c u) t z)
@@ -95,25 +88,25 @@ module _ {k : Kernel} (s : Steady k) (c : ℕ) (h : Channel) (t : ℕ) (z : Sess
   here : GoodChannel j c
   here =
       record {
-        unused = λ e. absurd (omega (arith, a .size .0, rw channel-here at e));
-        used = λ n. record { size = rw channel-here (a .size .1); fewest = rw channel-here (a .buffers .0); most = rw channel-here (a .buffers .1) };
-        latest = rw channel-here (a .latest);
+        unused = λ e. absurd (omega (arith, a .size .0, rw record-here at e));
+        used = λ n. record { size = rw record-here (a .size .1); fewest = rw record-here (a .buffers .0); most = rw record-here (a .buffers .1) };
+        latest = rw record-here (a .latest);
         sessions = λ u b lu o.
             let r = each (λ (x : ℕ) (y : Session). Opens y b → (status-number (task k x .status) ≡ FREE → ⊥) × (status-number (task k x .status) ≡ ZOMBIE → ⊥))
             (λ p. a .in-use) (λ x lx ne. busy g x b lx) u lu o in
-            record { not-free = r .0; not-zombie = r .1; named = rw channel-here (named h (all-suit u lu) o) };
+            record { not-free = r .0; not-zombie = r .1; named = rw record-here (named h (all-suit u lu) o) };
         one-writer = λ u v b.
             two (λ (x : ℕ) (y : Session) (w : ℕ) (r : Session). y ≡ Write b → r ≡ Write b → x ≡ w)
             (λ p q. refl)
             (λ x lx ne. (λ p q. absurd ((rw p at (a .apart x lx ne)) (inl q)), λ p q. absurd ((rw q at (a .apart x lx ne)) (inl p))))
             (λ x w lx lw. g .one-writer x w b lx lw) u v;
-        not-latest = λ u b lu e. rw channel-here ((rw e at (all-suit u lu)) .1);
+        not-latest = λ u b lu e. rw record-here ((rw e at (all-suit u lu)) .1);
         not-read = λ u v b.
             two (λ (x : ℕ) (y : Session) (w : ℕ) (r : Session). y ≡ Write b → r ≡ Reading b → ⊥)
             write-reading
             (λ x lx ne. (λ p q. (rw p at (a .apart x lx ne)) (inr q), λ p q. (rw q at (a .apart x lx ne)) p))
             (λ x w lx lw. g .not-read x w b lx lw) u v;
-        put-first = λ u b lu e. rw channel-here ((rw e at (all-suit u lu)) .1);
+        put-first = λ u b lu e. rw record-here ((rw e at (all-suit u lu)) .1);
       }
 
   -- Another channel keeps its record and its sessions.
@@ -121,8 +114,8 @@ module _ {k : Kernel} (s : Steady k) (c : ℕ) (h : Channel) (t : ℕ) (z : Sess
   elsewhere d ld ne =
       fewer
       (record {
-        channel-is = getD-set-other (k .channels) c d h unused-channel ne;
-        session-is = λ u lu. inl (session-there d u (λ e. ne (numbered task-count d u c t lu lt e)));
+        channel-is = channel-there (s .sized) c l h d ne;
+        session-is = λ u lu. inl (session-there (s .sized) c l t lt z d u lu (λ e. ne (e .0)));
         in-use = busy (s .channels d ld);
       })
       (s .channels d ld)

@@ -46,11 +46,11 @@ no-semaphore : (s : ℕ) → semaphore fresh s ≡ unused-semaphore
 unfolding fresh
 no-semaphore s = everywhere semaphore-count unused-semaphore s
 
-no-channel : (c : ℕ) → channel fresh c ≡ unused-channel
+pub no-channel : (c : ℕ) → channel fresh c ≡ unused-channel
 unfolding fresh
 no-channel c = everywhere channel-count unused-channel c
 
-no-session : (c t : ℕ) → session fresh c t ≡ Closed
+pub no-session : (c t : ℕ) → session fresh c t ≡ Closed
 unfolding fresh
 no-session c t = ap (λ (z : Slot). z .session) (everywhere (task-count * channel-count) (slot Closed) (slot-number c t))
 
@@ -147,7 +147,7 @@ fresh-good = fresh-at-good 0 (omega arith)
 
 -- ---- the state
 
-fresh-seen : seen fresh-state ≡ fresh
+pub fresh-seen : seen fresh-state ≡ fresh
 unfolding fresh fresh-state queue-from walk
 fresh-seen = refl
 

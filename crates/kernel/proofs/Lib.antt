@@ -12,5 +12,6 @@ pub mod Deadlines
 pub mod Shares
 pub mod Lowest
 pub mod Places
+pub mod Stored
 pub mod Over
 pub mod Messages
