@@ -9,7 +9,6 @@ use Rattle.chain.specs.Lists.{Among, insert, remove}
 use Rattle.chain.specs.Filing.{Queue}
 use Rattle.chain.proofs.Filing.{loose-there}
 use Rattle.kernel.specs.declared.Class.the-variants.{Nrt}
-use Rattle.kernel.specs.declared.Status.the-variants.{Ready}
 use Rattle.kernel.specs.declared.State.{State}
 use Rattle.kernel.specs.Sizes.{task-count, nrt-deadline}
 use Rattle.kernel.specs.Status.{FREE, status-number, queue-of, queue-count, ready}
@@ -27,7 +26,7 @@ use Rattle.promises.specs.Earliest.{Before, IsReady, InOrder, TieRule, E
 use Rattle.promises.proofs.Before.{rising-before, insert-before, insert-behind, remove-before}
 
 module _ {k : Kernel} (o : InOrder k) where
-  ready-queue : Queue task-count (place k) (deadline-of k) ready (queue k ready)
+  pub ready-queue : Queue task-count (place k) (deadline-of k) ready (queue k ready)
   ready-queue = o .queues ready (omega arith)
 
   stands-ready : {x : ℕ} → IsReady k x → place k x ≡ ready
@@ -36,7 +35,7 @@ module _ {k : Kernel} (o : InOrder k) where
   among : {x : ℕ} → IsReady k x → Among x (queue k ready)
   among {x} h = ready-queue .all x (h .is-task) (stands-ready h)
 
-  movable : (i : ℕ) → i < task-count → Movable k i
+  pub movable : (i : ℕ) → i < task-count → Movable k i
   movable i l = record { tasks = o .tasks; lists = o .lists; queues = o .queues; is-task = l }
 
   -- Where i becomes ready, it is inserted among the other ready ones.
@@ -46,11 +45,11 @@ module _ {k : Kernel} (o : InOrder k) where
       subst (λ (n : ℕ). queue (move k i a) n ≡ insert (λ x. leb (deadline-of k x) (a .deadline)) i (remove i (queue k n))) q
       (moved-queue (movable i l) a (rw q (omega arith)))
 
-  joins : (i : ℕ) (a : Bare) → i < task-count → a .status ≡ Ready → (x : ℕ) → IsReady k x → (x ≡ i → ⊥) → task k x .deadline ≤ a .deadline
+  pub joins : (i : ℕ) (a : Bare) → i < task-count → queue-of (a .status) ≡ ready → (x : ℕ) → IsReady k x → (x ≡ i → ⊥) → task k x .deadline ≤ a .deadline
       → Before x i (queue (move k i a) ready)
-  joins i a li e x h ne l =
+  joins i a li q x h ne l =
       let out = out-queues (movable i li) ready (omega arith) in
-      rw (joined i a li (ap queue-of e))
+      rw (joined i a li q)
       (insert-behind (deadline-of k) (a .deadline) i x l (remove i (queue k ready)) (out .rising)
       (out .all x (h .is-task) (loose-there queue-count i (place k) x ne ∙ stands-ready h)))
 
@@ -69,17 +68,17 @@ module _ {k : Kernel} (o : InOrder k) where
   unfolding move
   tie-rule =
       record {
-        joins = joins;
+        joins = λ i a l e. joins i a l (ap queue-of e);
         stays = stays;
         again = λ i a l. record { tasks = length-set (k .tasks) i a ∙ o .tasks; lists = move-sized k i a ∙ o .lists; queues = moved-queues (movable i l) a };
       }
 
 module _ {k : Kernel} (g : Good k) where
-  o : InOrder k
-  o = record { tasks = g .sized .tasks; lists = g .sized .queues; queues = g .queues }
+  pub in-order : InOrder k
+  in-order = record { tasks = g .sized .tasks; lists = g .sized .queues; queues = g .queues }
 
   earlier : (x y : ℕ) → IsReady k x → IsReady k y → task k x .deadline < task k y .deadline → Before x y (queue k ready)
-  earlier x y hx hy l = rising-before (deadline-of k) x y l (queue k ready) (ready-queue o .rising) (among o hx) (among o hy)
+  earlier x y hx hy l = rising-before (deadline-of k) x y l (queue k ready) (ready-queue in-order .rising) (among in-order hx) (among in-order hy)
 
   in-use : {x : ℕ} → IsReady k x → status-number (task k x .status) ≡ FREE → ⊥
   in-use h z = let e = h .status in omega arith
@@ -97,7 +96,7 @@ module _ {k : Kernel} (g : Good k) where
         hard-first = λ x y hx hy going h n. earlier x y hx hy (hard-before-nrt g going x y (hx .is-task) (hy .is-task) h n (in-use hy));
         by-priority = λ x y p q hx hy ex ey l.
             earlier x y hx hy (let a = nrt-deadline-of x p hx ex in let b = nrt-deadline-of y q hy ey in omega arith);
-        ties = tie-rule o;
+        ties = tie-rule in-order;
       }
 
 -- **earliest-first**: on a sound state the running deadline is no later than any ready one, and the ready queue is served by deadline and,

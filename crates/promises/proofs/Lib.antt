@@ -6,5 +6,7 @@ pub mod Soundness
 pub mod Always
 pub mod Before
 pub mod Earliest
+pub mod Joining
+pub mod Fair
 pub mod Memory
 pub mod Showings
