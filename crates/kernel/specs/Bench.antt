@@ -238,6 +238,20 @@ p11 = P 11 fresh (before-showing ++ showings)
 p11-written : Case
 p11-written = P 11 fresh (before-showing ++ (begin-write 0 gives 0 runs 2 ∷ showings))
 
+-- And a write that is under way, and not put, is shown to none who opens a reading.
+p11-unput : Case
+p11-unput =
+    P 11 fresh
+    (open-channel 4 3 gives 0 runs 0
+    ∷ create-nrt 1 gives 1 runs 0
+    ∷ writes 0 (1 ∷ 2 ∷ 3 ∷ 4 ∷ [])
+    ++ (begin-write 0 gives 0 runs 0
+    ∷ piece 0 0 (5 ∷ []) gives 0 runs 0
+    ∷ activate 1 gives 0 runs 1
+    ∷ begin-reading 0 gives 0 runs 1
+    ∷ showing 0 shows (1 ∷ 2 ∷ 3 ∷ 4 ∷ [])
+    ∷ []))
+
 -- P12 two buffers, one latest, one being written: another task's begin write gives -10.
 p12 : Case
 p12 =
@@ -251,9 +265,9 @@ p12 =
     ∷ []))
 
 pub cases : List Case
-cases = p1 ∷ p2-taken ∷ p2-refused ∷ p3 ∷ p4 ∷ p5 ∷ p6 ∷ p7 ∷ p8 ∷ p9 ∷ p9-ahead ∷ p10 ∷ p11 ∷ p11-written ∷ p12 ∷ []
+cases = p1 ∷ p2-taken ∷ p2-refused ∷ p3 ∷ p4 ∷ p5 ∷ p6 ∷ p7 ∷ p8 ∷ p9 ∷ p9-ahead ∷ p10 ∷ p11 ∷ p11-written ∷ p11-unput ∷ p12 ∷ []
 
 -- Every case holds.
 pub bench : failed cases ≡ []
-unfolding failed cases p1 p2-taken p2-refused p3 p4 p5 p6 p7 p8 p9 p9-ahead p10 before-showing showings p11 p11-written p12 lent fresh step effect share lowest move dispatch preempt schedule Tick.free Tick.wake Tick.free-zombies Tick.wake-idle Tick.tick Tasks.lowest-free Tasks.create Tasks.activate Tasks.sleep Tasks.cycle Tasks.close-sessions Tasks.finish Tasks.end Tasks.kill Semaphores.lowest-semaphore Semaphores.new-semaphore Semaphores.wait Semaphores.signal Channels.some-session Channels.lowest-buffer Channels.lowest-channel Channels.open-channel Channels.begin-write Channels.cleared Channels.written Channels.put Channels.begin-reading
+unfolding failed cases p1 p2-taken p2-refused p3 p4 p5 p6 p7 p8 p9 p9-ahead p10 before-showing showings p11 p11-written p11-unput p12 lent fresh step effect share lowest move dispatch preempt schedule Tick.free Tick.wake Tick.free-zombies Tick.wake-idle Tick.tick Tasks.lowest-free Tasks.create Tasks.activate Tasks.sleep Tasks.cycle Tasks.close-sessions Tasks.finish Tasks.end Tasks.kill Semaphores.lowest-semaphore Semaphores.new-semaphore Semaphores.wait Semaphores.signal Channels.some-session Channels.lowest-buffer Channels.lowest-channel Channels.open-channel Channels.begin-write Channels.cleared Channels.written Channels.put Channels.begin-reading
 bench = refl
