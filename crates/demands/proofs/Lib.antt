@@ -1,0 +1,10 @@
+-- The three demands.
+pub mod Functions
+pub mod Model
+pub mod Every
+pub mod Played
+pub mod Only
+pub mod One
+pub mod Two
+pub mod Three
+pub mod Example

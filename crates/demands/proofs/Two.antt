@@ -1,0 +1,52 @@
+-- **Demand 2**: every state of every run is sound, a legal call takes effect, and a call is refused exactly where the table says so.
+-- Assumes nothing.
+use mathlib.Core.Path.{_≡_, sym, subst}
+use mathlib.Core.Bool.{true}
+use mathlib.Core.Logic.{_↔_}
+use mathlib.Core.List.{List}
+use mathlib.Core.Option.{Option, none, some}
+use Prim.Native.Nat.{ℕ}
+use lib.IntN.{ℤ}
+use Rattle.kernel.specs.declared.Answer.the-variants.{Done, Refused}
+use Rattle.kernel.specs.declared.State.{State}
+use Rattle.kernel.specs.declared.Reply.{Reply}
+use Rattle.kernel.specs.Calls.{Call, effect}
+use Rattle.kernel.specs.Refusals.{first, rows}
+use Rattle.kernel.specs.Seen.{seen}
+use Rattle.kernel.specs.Sound.{Sound}
+use Rattle.kernel.specs.Shows.{Shows}
+use Rattle.kernel.specs.Promise.{handed}
+use Rattle.kernel.proofs.Decided.{yes as truly}
+use Rattle.promises.specs.Earliest.{EarliestFirst}
+use Rattle.promises.proofs.Answers as Answers
+use Rattle.promises.proofs.Earliest.{earliest-first}
+use Rattle.runs.specs.Trace.{Event}
+use Rattle.demands.specs.Functions.{Made}
+use Rattle.demands.specs.Run.{Run}
+use Rattle.demands.proofs.Functions.{promised}
+use Rattle.demands.proofs.Model.{as-model}
+
+-- **run-sound**: every state of every run is sound.
+pub run-sound : {m n : List ℕ} {s : State} {h : List Event} → Run m s n h → Sound s
+run-sound r = as-model r .sound
+
+-- **run-earliest**: in each of them the running deadline is no later than any ready one, and the ready tasks stand by deadline.
+pub run-earliest : {m n : List ℕ} {s : State} {h : List Event} → Run m s n h → EarliestFirst (seen s)
+run-earliest r = earliest-first (run-sound r)
+
+-- In a run, so on a sound state:
+module _ {s : State} {m : List ℕ} {c : Call} {r : Reply} {left : List ℕ} {shown : Option (List ℕ)} (sound : Sound s) (p : Made s m r c left shown) where
+  -- **refused-exactly**: a call is refused with x exactly where row x is the first of the table that applies.
+  pub refused-exactly : (x : ℤ) → (r .answer ≡ Refused x) ↔ (first (rows c (handed true s m)) ≡ some x)
+  refused-exactly x =
+      let q = promised p in
+      subst (λ (y : List ℕ). (r .answer ≡ Refused x) ↔ (first (rows c (handed true s y)) ≡ some x)) (q .lent) (Answers.refused-exactly (q .answered) true (truly sound) x)
+
+  -- **takes-effect**: a legal call takes effect.
+  pub takes-effect : first (rows c (handed true s m)) ≡ none
+      → (r .answer ≡ Done (effect c (seen s) m .number)) × Shows (r .state) (effect c (seen s) m .kernel) × (left ≡ effect c (seen s) m .memory)
+  takes-effect e =
+      let q = promised p in
+      let t = Answers.takes-effect (q .answered) sound (subst (λ (y : List ℕ). first (rows c (handed true s y)) ≡ none) (sym (q .lent)) e) in
+      subst (λ (y : List ℕ). (r .answer ≡ Done (effect c (seen s) y .number)) × Shows (r .state) (effect c (seen s) y .kernel) × (left ≡ effect c (seen s) y .memory)) (q .lent)
+      (t .answer, t .state, t .memory)
