@@ -3,3 +3,4 @@ pub mod Functions
 pub mod Run
 pub mod AsModel
 pub mod Every
+pub mod Legal
