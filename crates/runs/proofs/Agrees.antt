@@ -4,7 +4,6 @@ use mathlib.Core.List.{List, _∷_}
 use mathlib.Core.Option.{some}
 use mathlib.Core.Logic.{_⊎_, inl, inr}
 use Prim.Native.Nat.{ℕ, _<_}
-use native.Mathlib.Omega.{arith}
 use native.Mathlib.Decide.{ℕ-discrete}
 use borrow.Author.Tests.{ne-eqb}
 use Rattle.kernel.specs.declared.Latest.{Latest}
@@ -14,6 +13,7 @@ use Rattle.kernel.specs.declared.Session.the-variants.{Closed, Write, Reading}
 use Rattle.kernel.specs.Sizes.{task-count}
 use Rattle.kernel.specs.Good.{Opens}
 use Rattle.effects.proofs.Sessions.{never-open}
+use Rattle.effects.proofs.Channels.{put-or-not}
 use Rattle.runs.specs.Trace.{Deed, begins-write, writes, puts, begins-reading}
 use Rattle.runs.specs.Messages.{Act, _did_, written, last-put, opened}
 
@@ -38,15 +38,11 @@ pub record Agrees (n : ℕ) (h : List Act) (x : Latest) (session : ℕ → Sessi
   pub write : (t b : ℕ) → t < task-count → session t ≡ Write b → written n t h ≡ held b
   pub reading : (t b : ℕ) → t < task-count → session t ≡ Reading b → opened n t h ≡ some (held b)
 
--- What tells a latest buffer from none.
-never-put : {b : ℕ} → Nothing ≡ Buffer b → ⊥
-never-put e = let z : _≡_ {A = ℕ} 0 1 = cc in omega arith
-
 -- Where nothing was put and no session is open, there is nothing to agree on.
 pub blank : {n : ℕ} {h : List Act} {x : Latest} {session : ℕ → Session} {held : ℕ → List ℕ} → x ≡ Nothing → ((t : ℕ) → t < task-count → session t ≡ Closed) → Agrees n h x session held
 blank nothing closed =
     record {
-      latest = λ b e. absurd (never-put (sym nothing ∙ e));
+      latest = λ b e. absurd (put-or-not nothing e);
       write = λ t b l e. absurd (never-open (inl e) (closed t l));
       reading = λ t b l e. absurd (never-open (inr e) (closed t l));
     }

@@ -23,6 +23,7 @@ use Rattle.kernel.proofs.Places.{place-inside}
 use Rattle.kernel.proofs.Over.{over-here, over-part}
 use Rattle.kernel.proofs.Stored.{channel-here, channel-there, session-here, session-there}
 use Rattle.effects.proofs.Sessions.{never-open}
+use Rattle.effects.proofs.Buffers.{write-reading}
 use Rattle.effects.proofs.Free.{free-latest, free-session}
 use Rattle.runs.specs.Trace.{Event, Deed, begins-write, writes, puts, begins-reading}
 use Rattle.runs.specs.Messages.{_did_, log, size-of, written, last-put}
@@ -31,10 +32,7 @@ use Rattle.runs.proofs.Beside.{Fewer}
 use Rattle.runs.proofs.Held.{held, held-apart, small, few}
 use Rattle.runs.proofs.Told.{Told, Logged, Unlogged, passed, done}
 
--- What tells sessions apart, and latest buffers.
-write-reading : {b x : ℕ} {A : Type 0} → Write b ≡ Reading x → A
-write-reading e = absurd (let z : _≡_ {A = ℕ} 0 1 = cc in omega arith)
-
+-- The buffer of a session.
 same-write : {b x : ℕ} → Write b ≡ Write x → b ≡ x
 same-write e = ap buffer e
 
@@ -108,7 +106,7 @@ module _ {h : List Event} {k : Kernel} {m : List ℕ} (g : Good k) (told : (i : 
         (record {
           size = refl;
           latest = a .latest;
-          write = λ x q. write-reading (sym q ∙ here (Reading b));
+          write = λ x q. absurd (write-reading q (here (Reading b)));
           reading = λ x q. rw (eq-eqb t t refl) (a .latest x (latest ∙ ap Buffer (same-reading (sym (here (Reading b)) ∙ q))));
           others = λ v lv ne. there (Reading b) c v lv (λ z. ne (z .1));
           kept = λ v x lv ne o. refl;
@@ -141,7 +139,7 @@ module _ {h : List Event} {k : Kernel} {m : List ℕ} (g : Good k) (told : (i : 
                 let l : channel k c .latest ≡ Buffer x = sym (ap (λ (y : Channel). y .latest) (channels c)) ∙ q in
                 put-is ∙ a .latest x l ∙ ap some (sym (apart c x n (omega (arith, few g c (u .0), good .latest x l)) (small g c (u .0)) (λ z. not-latest (l ∙ ap Buffer (sym (z .1))))));
             write = λ x q. written-is ∙ ap (held (over m p bs) c n) (same-write (sym mine ∙ q));
-            reading = λ x q. write-reading (sym mine ∙ q);
+            reading = λ x q. absurd (write-reading mine q);
             others = λ v lv ne. others c v lv (λ z. ne (z .1));
             kept = λ v x lv ne o.
                 apart c x n (omega (arith, few g c (u .0), good .sessions v x lv o .named)) (small g c (u .0))

@@ -5,7 +5,6 @@ use mathlib.Core.Bool.{Bool, true, false, false≢true, not, _&&_, and-eq-true-i
 use mathlib.Core.List.{List, [], _∷_}
 use mathlib.Core.Option.{Option, none, some}
 use Prim.Native.Nat.{ℕ}
-use lib.Dec.{eqb}
 use borrow.Author.Tests.{eq-eqb, not-true}
 use Rattle.kernel.specs.Kernel.{lowest}
 use Rattle.kernel.specs.Moves.{move, dispatch, preempt, schedule}
@@ -13,6 +12,7 @@ use Rattle.kernel.specs.Tasks as Tasks
 use Rattle.kernel.specs.Channels as Channels
 use Rattle.kernel.specs.Calls.{showing, effect}
 use Rattle.kernel.specs.Fresh.{fresh}
+use Rattle.kernel.specs.Bench.{same-bytes}
 use Rattle.runs.specs.Trace.{Event, accepted}
 use Rattle.runs.specs.Messages.{log, size-of, opened}
 use Rattle.runs.specs.Whole.{Whole}
@@ -20,12 +20,6 @@ use Rattle.runs.specs.Run.{handed, event, after, trace}
 use Rattle.runs.specs.Frauds.{cheating, shows-first, shows-zeros, shows-nothing, publishes-early, takes-read-buffer, keeps-old-bytes, Case, run, first-message, zeros, no-message, early, overwritten, old-bytes, cases}
 
 -- ---- messages compared
-
-abbrev same-bytes : List ℕ → List ℕ → Bool
-same-bytes [] [] = true
-same-bytes [] (y ∷ ys) = false
-same-bytes (x ∷ xs) [] = false
-same-bytes (x ∷ xs) (y ∷ ys) = eqb x y && same-bytes xs ys
 
 abbrev same : Option (List ℕ) → Option (List ℕ) → Bool
 same none none = true
