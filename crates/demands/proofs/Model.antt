@@ -2,21 +2,20 @@
 use mathlib.Core.Path.{_≡_, refl, ap, sym, subst, _∙_}
 use mathlib.Core.Bool.{true}
 use mathlib.Core.List.{List, _∷_}
-use mathlib.Core.Option.{Option, none, some}
+use mathlib.Core.Option.{Option}
 use Prim.Native.Nat.{ℕ}
-use lib.IntN.{ℤ}
 use Rattle.kernel.specs.declared.State.{State}
 use Rattle.kernel.specs.declared.Reply.{Reply}
-use Rattle.kernel.specs.Calls.{Call, Shown, nothing, part, standby, effect}
+use Rattle.kernel.specs.Calls.{Call, Shown, nothing, part, standby}
 use Rattle.kernel.specs.Refusals.{Handed}
-use Rattle.kernel.specs.Step.{Outcome, by-table, step}
+use Rattle.kernel.specs.Step.{Outcome, step}
 use Rattle.kernel.specs.Seen.{seen}
 use Rattle.kernel.specs.Sound.{Sound}
-use Rattle.kernel.specs.Promise.{handed-back, Loan, Given, Answered}
+use Rattle.kernel.specs.Promise.{handed-back, Loan}
 use Rattle.kernel.specs.Promise as Promise
-use Rattle.kernel.proofs.Decided.{yes as truly}
 use Rattle.kernel.proofs.Fresh.{fresh-sound, fresh-seen}
-use Rattle.promises.proofs.Answers.{By, says, by, call-sound}
+use Rattle.promises.proofs.Answers.{call-sound}
+use Rattle.promises.proofs.SeenAs.{SeenAs, as-step}
 use Rattle.runs.specs.Trace.{Event, asks, instead}
 use Rattle.runs.specs.Run.{bytes-of, World, handed, after, trace}
 use Rattle.demands.specs.Run.{Run, start, call}
@@ -28,22 +27,6 @@ pub bytes-handed : (x : Shown) (l : Loan) → bytes (handed-back x l) ≡ bytes-
 bytes-handed nothing l = refl
 bytes-handed (part a n) l = refl
 bytes-handed standby l = refl
-
--- What a call gave back is the outcome o, as far as it is seen.
-record SeenAs (o : Outcome) (l : Loan) (g : Given) : Type 0 where
-  pub answer : g .reply .answer ≡ o .answer
-  pub kernel : seen (g .reply .state) ≡ o .kernel
-  pub memory : g .memory ≡ o .memory
-  pub shown : g .shown ≡ handed-back (o .shown) l
-
--- A call on a sound state gives back the model's outcome.
-as-step : {c : Call} {s : State} {l : Loan} {g : Given} → Answered c s l g → Sound s → SeenAs (step c (Promise.handed true s (l .memory .bytes))) l g
-unfolding step
-as-step {c} {s} {l} {g} a w = go (says c s l true) (by a true (truly w))
-  where
-    go : (o : Option ℤ) → By c s l g true o → SeenAs (by-table o (effect c (seen s) (l .memory .bytes)) (Promise.handed true s (l .memory .bytes))) l g
-    go (some x) h = record { answer = h .answer; kernel = ap seen (h .state); memory = h .memory; shown = h .shown }
-    go none h = record { answer = h .answer; kernel = h .state .is; memory = h .memory; shown = h .shown }
 
 -- So goes a run, call by call.
 next : {m n left : List ℕ} {s : State} {h : List Event} {c : Call} {r : Reply} {shown : Option (List ℕ)} → AsModel m s n h → Promised s n r c left shown

@@ -1,6 +1,7 @@
 -- The theorems over all calls.
 pub mod States
 pub mod Answers
+pub mod SeenAs
 pub mod Decisions
 pub mod Soundness
 pub mod Always

@@ -50,7 +50,7 @@ fn activated(s: State, n: usize) -> State
     processor::schedule(ready)
 }
 
-// Activate a SLEEP task: it joins the ready queue, and is scheduled.
+// Activate a SLEEP task: it joins the ready queue; then schedule.
 pub fn activate(s: State, task: TaskNo) -> Reply
     ensures { λ r. ⌜ Unlent (Calls.activate (task .0)) s r ⌝ }
 {

@@ -1,4 +1,4 @@
--- A SLEEP task is released, joins the ready queue, and is scheduled. Assumes nothing.
+-- A SLEEP task is released and joins the ready queue; then schedule. Assumes nothing.
 use mathlib.Core.Path.{sym}
 use borrow.Author.Needs.{needs, scaled-fits}
 use Rattle.kernel.specs.Sizes.{task-count}
