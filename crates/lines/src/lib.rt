@@ -19,13 +19,9 @@ pub fn number(n: u64) {
 }
 
 pub fn signed(n: i64) {
-    if n < 0 {
-        write(b"-");
-        let below = -1 - n;
-        number(below as u64 + 1);
-    } else {
-        number(n as u64);
-    }
+    let mut digits = [0u8; text::LONGEST_NUMBER];
+    let k = text::number(&mut digits, 0, n);
+    write(&digits[..k]);
 }
 
 fn answer(a: Answer) {

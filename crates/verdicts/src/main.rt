@@ -16,14 +16,13 @@ use kernel::State;
 use kernel::Status;
 use kernel::Stop;
 use kernel::Task;
-use libc::STDOUT_FILENO;
 
 fn show(name: &[u8], s: State) {
-    io::write_all(STDOUT_FILENO, name);
+    lines::write(name);
     if soundness::sound(s) {
-        io::write_all(STDOUT_FILENO, b": sound\n");
+        lines::write(b": sound\n");
     } else {
-        io::write_all(STDOUT_FILENO, b": not sound\n");
+        lines::write(b": not sound\n");
     }
 }
 

@@ -3,7 +3,6 @@ use crate::hall;
 use kernel::Class;
 use kernel::State;
 use kernel::Status;
-use libc::STDOUT_FILENO;
 
 // A move asks that the queues are in order, as they are in a sound state.
 fn moved(s: State, x: usize, class: Class, status: Status, deadline: u32) -> State {
@@ -20,15 +19,15 @@ fn print_task(s: State, x: usize) -> usize {
     if x >= State::TASKS {
         return x;
     }
-    io::write_all(STDOUT_FILENO, b" ");
-    io::print_decimal(STDOUT_FILENO, x as u64);
+    lines::write(b" ");
+    lines::number(x as u64);
     let t = s.tasks[x];
     let next = t.next;
     queues::target(next)
 }
 
 fn print_queue(name: &[u8], s: State, q: usize) {
-    io::write_all(STDOUT_FILENO, name);
+    lines::write(name);
     if q < State::QUEUES {
         let a = queues::first(s, q);
         let b = print_task(s, a);
@@ -37,19 +36,19 @@ fn print_queue(name: &[u8], s: State, q: usize) {
         let e = print_task(s, d);
         print_task(s, e);
     }
-    io::write_all(STDOUT_FILENO, b"\n");
+    lines::write(b"\n");
 }
 
 fn print(step: &[u8], s: State) {
-    io::write_all(STDOUT_FILENO, step);
+    lines::write(step);
     print_queue(b"  ready:", s, State::READY);
     print_queue(b"  idle:", s, State::IDLE);
     print_queue(b"  zombie:", s, State::ZOMBIE);
     print_queue(b"  waiters of 1:", s, State::WAITERS + 1);
     if soundness::sound(s) {
-        io::write_all(STDOUT_FILENO, b"  sound\n");
+        lines::write(b"  sound\n");
     } else {
-        io::write_all(STDOUT_FILENO, b"  not sound\n");
+        lines::write(b"  not sound\n");
     }
 }
 

@@ -1,2 +1,0 @@
--- Facts behind what is printed.
-pub mod Below

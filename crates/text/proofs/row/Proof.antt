@@ -1,0 +1,58 @@
+-- The parts of a row follow each other, and each has room. Assumes nothing.
+use mathlib.Core.Path.{_≡_}
+use Prim.Native.Nat.{_≤_}
+use native.Mathlib.Omega.{arith}
+use mir.Syntax.{w64}
+use mir.Val.{toZ, ofZ}
+use borrow.Author.Needs.{needs}
+use Rattle.text.proofs.Digits.{short}
+use Rattle.text.proofs.Signed.{number-short}
+use Rattle.text.proofs.Follows.{follows}
+use Rattle.text.proofs.row.Statement.{statement}
+use Rattle.text.proofs.row.Tie as tie
+
+bits : (c : tie.After-number-of) → toZ w64 (ofZ w64 (c .number-of .result)) ≡ c .number-of .result
+bits c = search needs
+
+-- How long the row is behind each number.
+answer : (c : tie.After-number) → c .number .result ≤ 20
+answer c = omega (arith, rw (bits (c .before)) at (c .number .ensures .ends), number-short (c .before .number-of .result) (search needs))
+
+running : (c : tie.After-decimal) → c .decimal .result ≤ 41
+running c =
+    let k = c .before .before .before .before .before in
+    omega (arith, answer k, short (k .before .before .before .args .running .0) 19 (omega arith) (omega arith))
+
+clock : (c : tie.After-decimal2) → c .decimal2 .result ≤ 62
+clock c =
+    let k = c .before .before .before .before .before in
+    omega (arith, running k, short (k .before .before .before .before .before .before .before .before .args .clock) 19 (omega arith) (omega arith))
+
+says : tie.Need-returns
+says c =
+    let d = c .before .before .before in
+    let k = d .before .before .before .before .before in
+    let n = k .before .before .before .before .before in (
+      follows
+          (rw (bits (n .before), n .before .number-of .ensures) at (n .number .ensures))
+          (follows
+          (k .before .before .put .ensures)
+          (follows (k .decimal .ensures) (follows (d .before .before .put2 .ensures) (follows (d .decimal2 .ensures) (c .put3 .ensures))))),
+      omega (arith, clock d, c .put3 .ensures .ends),
+    )
+
+pub row-spec : {M : Type 1} → statement M
+row-spec =
+    tie.close
+    (tie.spec
+    (λ c κs. search needs)
+    (λ c κs. search needs)
+    (λ c. search needs)
+    (λ c κs. omega (arith, answer (c .before .before)))
+    (λ c κs. omega (arith, answer (c .before .before .before .before)))
+    (λ c. search needs)
+    (λ c κs. omega (arith, running (c .before .before)))
+    (λ c κs. omega (arith, running (c .before .before .before .before)))
+    (λ c. search needs)
+    (λ c κs. omega (arith, clock (c .before .before)))
+    says)
