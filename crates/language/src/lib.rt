@@ -1,0 +1,157 @@
+// The language of scripts: a line of bytes to the call that it asks for.
+ghost use mathlib.Core.Path.{_≡_};
+ghost use Rattle.language.specs.Meaning as Meaning;
+ghost use Rattle.language.specs.Meaning.{number-of, meaning};
+use kernel::SemaphoreNo;
+use kernel::TaskNo;
+
+pub enum Number {
+    NoNumber,
+    Is(u64),
+}
+
+// A call that has a verb, with whatever numbers its line has.
+pub enum Asked {
+    Tick,
+    Hard(u64, u64),
+    Nrt(u64),
+    Activate(TaskNo),
+    Sleep,
+    Cycle,
+    End,
+    Kill(TaskNo),
+    Newsem(u64),
+    Delsem(SemaphoreNo),
+    Wait(SemaphoreNo),
+    Signal(SemaphoreNo),
+}
+
+pub enum Line {
+    NoCall,
+    Asks(Asked),
+}
+
+// Ten digits have room in 64 bits.
+fn value(digits: &[u8]) -> Number
+    ensures { λ r. ⌜ r ≡ number-of (now (digits .entry)) ⌝ }
+{
+    if digits.len() < 1 {
+        return Number::NoNumber;
+    }
+    if digits.len() > 10 {
+        return Number::NoNumber;
+    }
+    let mut n: u64 = 0;
+    let mut i = 0;
+    while i < digits.len() {
+        let b = digits[i];
+        if b < b'0' {
+            return Number::NoNumber;
+        }
+        if b > b'9' {
+            return Number::NoNumber;
+        }
+        n = n * 10 + (b - b'0') as u64;
+        i += 1;
+    }
+    Number::Is(n)
+}
+
+fn alone(verb: &[u8]) -> Line
+    ensures { λ r. ⌜ r ≡ Meaning.alone (now (verb .entry)) ⌝ }
+{
+    if check::same(verb, b"tick") {
+        return Line::Asks(Asked::Tick);
+    }
+    if check::same(verb, b"sleep") {
+        return Line::Asks(Asked::Sleep);
+    }
+    if check::same(verb, b"cycle") {
+        return Line::Asks(Asked::Cycle);
+    }
+    if check::same(verb, b"end") {
+        return Line::Asks(Asked::End);
+    }
+    Line::NoCall
+}
+
+fn with_one(verb: &[u8], n: u64) -> Line
+    ensures { λ r. ⌜ r ≡ Meaning.with-one (now (verb .entry)) n ⌝ }
+{
+    if check::same(verb, b"nrt") {
+        return Line::Asks(Asked::Nrt(n));
+    }
+    if check::same(verb, b"activate") {
+        return Line::Asks(Asked::Activate(TaskNo(n as usize)));
+    }
+    if check::same(verb, b"kill") {
+        return Line::Asks(Asked::Kill(TaskNo(n as usize)));
+    }
+    if check::same(verb, b"newsem") {
+        return Line::Asks(Asked::Newsem(n));
+    }
+    if check::same(verb, b"delsem") {
+        return Line::Asks(Asked::Delsem(SemaphoreNo(n as usize)));
+    }
+    if check::same(verb, b"wait") {
+        return Line::Asks(Asked::Wait(SemaphoreNo(n as usize)));
+    }
+    if check::same(verb, b"signal") {
+        return Line::Asks(Asked::Signal(SemaphoreNo(n as usize)));
+    }
+    Line::NoCall
+}
+
+fn with_two(period: Number, cost: Number) -> Line
+    ensures { λ r. ⌜ r ≡ Meaning.with-two period cost ⌝ }
+{
+    let Number::Is(p) = period else {
+        return Line::NoCall;
+    };
+    let Number::Is(c) = cost else {
+        return Line::NoCall;
+    };
+    Line::Asks(Asked::Hard(p, c))
+}
+
+fn space(line: &[u8]) -> usize
+    ensures { λ r. ⌜ r ≡ Meaning.space (now (line .entry)) ⌝ }
+{
+    bytes::scan::find(line, 0, line.len(), b' ')
+}
+
+fn hard(numbers: &[u8]) -> Line
+    ensures { λ r. ⌜ r ≡ Meaning.hard (now (numbers .entry)) ⌝ }
+{
+    let end = space(numbers);
+    if end < numbers.len() {
+        let next = end + 1;
+        with_two(value(&numbers[..end]), value(&numbers[next..]))
+    } else {
+        Line::NoCall
+    }
+}
+
+fn followed(verb: &[u8], rest: &[u8]) -> Line
+    ensures { λ r. ⌜ r ≡ Meaning.followed (now (verb .entry)) (now (rest .entry)) ⌝ }
+{
+    if check::same(verb, b"hard") {
+        return hard(rest);
+    }
+    match value(rest) {
+        Number::Is(n) => with_one(verb, n),
+        Number::NoNumber => Line::NoCall,
+    }
+}
+
+pub fn read(line: &[u8]) -> Line
+    ensures { λ r. ⌜ r ≡ meaning (now (line .entry)) ⌝ }
+{
+    let end = space(line);
+    if end < line.len() {
+        let next = end + 1;
+        followed(&line[..end], &line[next..])
+    } else {
+        alone(line)
+    }
+}
