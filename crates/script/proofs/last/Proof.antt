@@ -1,0 +1,20 @@
+-- The end of the input ends the line that is begun. Assumes nothing.
+use mathlib.Core.Path.{refl}
+use native.Mathlib.Omega.{arith}
+use borrow.Author.Needs.{needs}
+use Rattle.io.proofs.Counting.{counts}
+use Rattle.script.proofs.Ending.{nothing-begun, line-ended}
+use Rattle.script.proofs.last.Statement.{statement}
+use Rattle.script.proofs.last.Tie as tie
+
+nothing : tie.Need-returns
+nothing c = let k = c .before .before in ((omega arith, refl), rw (c .if1 .taken) (nothing-begun (k .args .s) (k .args .held .now)))
+
+line : tie.Need-returns-2
+line c =
+    let n = c .before .before in
+    let e = c .ended .ensures in
+    (counts (c .ended .result .printed) (c .ended .last .1 .1 .1 .0) (e .fits .within), line-ended (let h = n .if1 .left in omega arith) (n .before .before .pre) e)
+
+pub last-spec : {M : Type 1} → statement M
+last-spec = tie.close (tie.spec nothing (λ c κs. search needs) line)

@@ -1,0 +1,13 @@
+-- The first line is put at the start of the row. Assumes nothing.
+use native.Mathlib.Omega.{arith}
+use borrow.Author.Needs.{needs}
+use Rattle.io.proofs.Counting.{counts}
+use Rattle.text.proofs.Follows.{inside}
+use Rattle.script.proofs.title.Statement.{statement}
+use Rattle.script.proofs.title.Tie as tie
+
+says : tie.Need-returns
+says c = (counts (c .put .result) (c .put .last .0) (inside (c .put .ensures) (omega arith)), c .put .ensures .holds)
+
+pub title-spec : {M : Type 1} → statement M
+title-spec = tie.close (tie.spec (λ c. search needs) (λ c κs. search needs) says)

@@ -1,0 +1,4 @@
+pub mod Output
+pub mod Step
+pub mod Blocks
+pub mod Document
