@@ -1,0 +1,4 @@
+// The script program on an empty input.
+fn main() {
+    console::run();
+}

@@ -1,0 +1,4 @@
+// The script program on equal deadlines and priorities: who is taken first.
+fn main() {
+    console::run();
+}
