@@ -1,12 +1,9 @@
-// Runs document 01's script and the bench cases of tasks and semaphores that are to be run, and prints a line a call.
-mod document;
+// Runs the bench cases of tasks and semaphores that are to be run, and prints a line a call.
 mod lives;
 mod slack;
 mod waiting;
 
 fn main() {
-    lines::title(b"document 01's script");
-    document::script();
     lines::title(b"slack before, at and after the deadline");
     slack::asleep();
     lines::title(b"tasks");
