@@ -7,7 +7,7 @@ use Rattle.kernel.specs.Kernel.{share-of}
 use Rattle.kernel.specs.Tasks.{lowest-free}
 use Rattle.kernel.specs.Seen.{seen}
 use Rattle.kernel.specs.Shows.{Kept}
-use Rattle.clauses.specs.Task.{HardFits}
+use Rattle.sound_clauses.specs.Task.{HardFits}
 
 pub record Creatable (s : State) (class : Class) : Type 0 where
   pub kept : Kept s

@@ -52,7 +52,7 @@ fn created(s: State, class: Class) -> State
 {
     let i = lowest_free(s);
     let deadline = first_deadline(class, s.clock);
-    let share = s.share + clauses::share_of(class) as u32;
+    let share = s.share + sound_clauses::share_of(class) as u32;
     let mut r = queues::move_task(s, i, class, Status::Sleep, deadline);
     r.share = share;
     r
@@ -83,7 +83,7 @@ fn too_much(s: State, period: u64, cost: u64) -> bool
     if !fit(period, cost) {
         return false;
     }
-    let share = clauses::hard_share(period as u32, cost as u32);
+    let share = sound_clauses::hard_share(period as u32, cost as u32);
     s.share as u64 + share > State::WHOLE as u64
 }
 

@@ -6,8 +6,8 @@ use mathlib.Core.List.{[]}
 use Prim.Native.Nat.{ℕ, zero, suc, _-_, _*_, _<_}
 use native.Mathlib.Omega.{arith}
 use lib.ListN.{getD, replicate, getD-replicate}
-use Rattle.chain.specs.Chain.{end, walk}
-use Rattle.chain.specs.Filing.{Queue}
+use Rattle.laws_chain.specs.Chain.{end, walk}
+use Rattle.laws_chain.specs.Filing.{Queue}
 use Rattle.kernel.specs.declared.Channel.{Channel}
 use Rattle.kernel.specs.declared.Latest.the-variants.{Buffer}
 use Rattle.kernel.specs.declared.Session.the-variants.{Closed}

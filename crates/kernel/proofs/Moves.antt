@@ -7,10 +7,10 @@ use native.Mathlib.Decide.{ℕ-discrete}
 use lib.ListN.{length, getD, set, length-set}
 use lib.Seq.{getD-set-same, getD-set-other}
 use lib.Dec.{leb}
-use Rattle.chain.specs.Lists.{insert, remove}
-use Rattle.chain.specs.Filing.{Queue}
-use Rattle.chain.proofs.Lists.{remove-absent}
-use Rattle.chain.proofs.Filing.{absent, loosened, loose-here, loose-there, queue-left, queue-joined}
+use Rattle.laws_chain.specs.Lists.{insert, remove}
+use Rattle.laws_chain.specs.Filing.{Queue}
+use Rattle.laws_chain.proofs.Lists.{remove-absent}
+use Rattle.laws_chain.proofs.Filing.{absent, loosened, loose-here, loose-there, queue-left, queue-joined}
 use Rattle.kernel.specs.Sizes.{task-count}
 use Rattle.kernel.specs.Status.{queue-of, queue-count}
 use Rattle.kernel.specs.Kernel.{Bare, Kernel, task, queue, blank, with-tasks}

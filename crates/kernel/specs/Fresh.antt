@@ -2,7 +2,7 @@
 use mathlib.Core.List.{[], _∷_}
 use Prim.Native.Nat.{ℕ, _-_, _*_}
 use lib.ListN.{replicate}
-use Rattle.chain.specs.Chain as Chain
+use Rattle.laws_chain.specs.Chain as Chain
 use Rattle.kernel.specs.declared.Class.the-variants.{Nrt}
 use Rattle.kernel.specs.declared.Status.the-variants.{Exe}
 use Rattle.kernel.specs.declared.Stop.the-variants.{Going}

@@ -4,7 +4,7 @@ use mathlib.Core.List.{List, map}
 use Prim.Native.Nat.{ℕ}
 use lib.IntN.{ℤ, pos}
 use lib.ListN.{getD}
-use Rattle.chain.specs.Chain.{walk}
+use Rattle.laws_chain.specs.Chain.{walk}
 use Rattle.kernel.specs.declared.Class.the-variants.{Nrt}
 use Rattle.kernel.specs.declared.Status.the-variants.{Free}
 use Rattle.kernel.specs.declared.Task.{Task}

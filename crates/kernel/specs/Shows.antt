@@ -1,7 +1,7 @@
 -- A state whose links are in order, and what it shows. Assumes nothing.
 use mathlib.Core.Path.{_≡_}
 use Prim.Native.Nat.{ℕ, _<_}
-use Rattle.chain.specs.Filing.{Queue}
+use Rattle.laws_chain.specs.Filing.{Queue}
 use Rattle.kernel.specs.declared.State.{State}
 use Rattle.kernel.specs.Sizes.{task-count}
 use Rattle.kernel.specs.Status.{queue-count}

@@ -1,7 +1,7 @@
 -- A sound state: what its links must satisfy, and what the kernel seen in it must. Assumes nothing.
 use mathlib.Core.List.{List}
 use Prim.Native.Nat.{ℕ}
-use Rattle.chain.specs.Filing as Filing
+use Rattle.laws_chain.specs.Filing as Filing
 use Rattle.kernel.specs.declared.State.{State}
 use Rattle.kernel.specs.Sizes.{task-count}
 use Rattle.kernel.specs.Status.{queue-count}

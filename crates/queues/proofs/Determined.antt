@@ -4,7 +4,7 @@ use Prim.Native.Nat.{ℕ, _<_}
 use native.Mathlib.Omega.{arith}
 use lib.ListN.{length, length-map}
 use lib.Seq.{ext-getD}
-use Rattle.chain.proofs.Filing.{determined}
+use Rattle.laws_chain.proofs.Filing.{determined}
 use Rattle.kernel.specs.declared.Task.{Task}
 use Rattle.kernel.specs.declared.State.{State}
 use Rattle.kernel.specs.Sizes.{task-count}

@@ -3,8 +3,8 @@ use mathlib.Core.Path.{_≡_, refl, sym, ap, _∙_}
 use mathlib.Core.List.{List, _∷_}
 use Prim.Native.Nat.{ℕ, _<_}
 use lib.ListN.{length}
-use Rattle.chain.specs.Chain.{target}
-use Rattle.chain.proofs.Walk.{walk-none, walk-some}
+use Rattle.laws_chain.specs.Chain.{target}
+use Rattle.laws_chain.proofs.Walk.{walk-none, walk-some}
 use Rattle.kernel.specs.declared.State.{State}
 use Rattle.kernel.specs.Sizes.{task-count}
 use Rattle.kernel.specs.Status.{queue-count}

@@ -9,9 +9,9 @@ use lib.IntN.{ℤ, pos}
 use lib.ListN.{length, getD, set, length-set, List·getD-map}
 use lib.Seq.{set-out, getD-set-same, getD-set-other, map-set-same}
 use lib.Dec.{ltb}
-use Rattle.chain.specs.Chain.{target}
-use Rattle.chain.proofs.Links.{leads}
-use Rattle.chain.proofs.Splice.{Relinked, new-head}
+use Rattle.laws_chain.specs.Chain.{target}
+use Rattle.laws_chain.proofs.Links.{leads}
+use Rattle.laws_chain.proofs.Splice.{Relinked, new-head}
 use Rattle.kernel.specs.declared.Task.{Task}
 use Rattle.kernel.specs.declared.State.{State}
 use Rattle.kernel.specs.Sizes.{task-count}

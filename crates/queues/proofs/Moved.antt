@@ -9,13 +9,13 @@ use lib.ListN.{length, getD, set, length-set, length-map}
 use lib.Seq.{ext-getD}
 use lib.Dec.{leb}
 use borrow.Author.Tests.{lt-ltb, le-ltb}
-use Rattle.chain.specs.Lists.{lead, behind, remove}
-use Rattle.chain.specs.Chain.{end, start, finish}
-use Rattle.chain.specs.Filing.{Queue}
-use Rattle.chain.proofs.Lists.{Absent, all-left, all-right, inserted}
-use Rattle.chain.proofs.Stretch.{found}
-use Rattle.chain.proofs.Splice.{kept as kept-links}
-use Rattle.chain.proofs.Filing.{absent, loosened, loose-here, loose-there, joined, stored}
+use Rattle.laws_chain.specs.Lists.{lead, behind, remove}
+use Rattle.laws_chain.specs.Chain.{end, start, finish}
+use Rattle.laws_chain.specs.Filing.{Queue}
+use Rattle.laws_chain.proofs.Lists.{Absent, all-left, all-right, inserted}
+use Rattle.laws_chain.proofs.Stretch.{found}
+use Rattle.laws_chain.proofs.Splice.{kept as kept-links}
+use Rattle.laws_chain.proofs.Filing.{absent, loosened, loose-here, loose-there, joined, stored}
 use Rattle.kernel.specs.declared.Task.{Task}
 use Rattle.kernel.specs.declared.State.{State}
 use Rattle.kernel.specs.Sizes.{task-count}

@@ -7,10 +7,10 @@ use native.Mathlib.Decide.{decLt}
 use lib.ListN.{length, set, length-map}
 use lib.Seq.{getD-set-same, getD-set-other, set-getD}
 use borrow.Author.Tests.{lt-ltb, le-ltb}
-use Rattle.chain.specs.Lists.{remove}
-use Rattle.chain.specs.Chain.{end}
-use Rattle.chain.proofs.Lists.{remove-absent}
-use Rattle.chain.proofs.Filing.{absent, loosened, loose-here, loose-there, left, stored}
+use Rattle.laws_chain.specs.Lists.{remove}
+use Rattle.laws_chain.specs.Chain.{end}
+use Rattle.laws_chain.proofs.Lists.{remove-absent}
+use Rattle.laws_chain.proofs.Filing.{absent, loosened, loose-here, loose-there, left, stored}
 use Rattle.kernel.specs.declared.Task.{Task}
 use Rattle.kernel.specs.declared.State.{State}
 use Rattle.kernel.specs.Sizes.{task-count}

@@ -6,8 +6,8 @@ use lib.IntN.{ℤ}
 use lib.ListN.{length}
 use lib.Dec.{leb}
 use borrow.Author.Tests.{le-leb, lt-leb}
-use Rattle.chain.specs.Chain.{end, target, walk}
-use Rattle.chain.proofs.Scan.{Scanning, scan-begin, scan-step, scan-stop, scan-end}
+use Rattle.laws_chain.specs.Chain.{end, target, walk}
+use Rattle.laws_chain.proofs.Scan.{Scanning, scan-begin, scan-step, scan-stop, scan-end}
 use Rattle.kernel.specs.declared.State.{State}
 use Rattle.kernel.specs.Sizes.{task-count}
 use Rattle.kernel.specs.Status.{queue-count}

@@ -2,7 +2,7 @@
 use mathlib.Core.Path.{_≡_}
 use mathlib.Core.List.{List, [], _∷_}
 use Prim.Native.Nat.{ℕ, _≤_, _<_}
-use Rattle.chain.specs.Chain.{target}
+use Rattle.laws_chain.specs.Chain.{target}
 use Rattle.kernel.specs.declared.State.{State}
 use Rattle.kernel.specs.Sizes.{task-count}
 use Rattle.kernel.specs.Kernel.{queue}

@@ -5,8 +5,8 @@ use Prim.Native.Nat.{ℕ}
 use lib.IntN.{ℤ, pos}
 use lib.ListN.{set}
 use lib.Dec.{ltb, leb}
-use Rattle.chain.specs.Lists.{lead, behind}
-use Rattle.chain.specs.Chain.{end, start, finish, Chain, Gap, target}
+use Rattle.laws_chain.specs.Lists.{lead, behind}
+use Rattle.laws_chain.specs.Chain.{end, start, finish, Chain, Gap, target}
 use Rattle.kernel.specs.declared.Class.{Class}
 use Rattle.kernel.specs.declared.Status.{Status}
 use Rattle.kernel.specs.declared.Task.{Task}

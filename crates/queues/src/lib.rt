@@ -1,7 +1,7 @@
 // Chapter 10's queues: insert, extract and getfirst. But for the fresh kernel, no other code writes a link or a head.
 ghost use mathlib.Core.Path.{_≡_};
 ghost use Prim.Native.Nat.{_<_};
-ghost use Rattle.chain.specs.Chain.{target as leads-to};
+ghost use Rattle.laws_chain.specs.Chain.{target as leads-to};
 ghost use Rattle.kernel.specs.Sizes.{task-count};
 ghost use Rattle.kernel.specs.Status.{queue-count, queue-of};
 ghost use Rattle.kernel.specs.Moves.{move};

@@ -88,7 +88,7 @@ pub fn is_hard(s: State, n: usize) -> bool
     if n < State::TASKS {
         let t = s.tasks[n];
         let class = t.class;
-        return clauses::is_hard(class);
+        return sound_clauses::is_hard(class);
     }
     false
 }

@@ -11,8 +11,8 @@ use Rattle.kernel.specs.Calls.{Call}
 use Rattle.kernel.specs.Seen.{seen}
 use Rattle.kernel.specs.Sound.{Sound}
 use Rattle.kernel.specs.Promise.{Loan, Given}
-use Rattle.promises.proofs.Answers.{call-sound, one-outcome}
-use Rattle.promises.proofs.SeenAs.{as-step}
+use Rattle.laws_promises.proofs.Answers.{call-sound, one-outcome}
+use Rattle.laws_promises.proofs.SeenAs.{as-step}
 use Rattle.text.specs.Text.{row}
 use Rattle.script.specs.Output.{Turned, by-call}
 use Rattle.script.specs.Step.{Stepped, called, unknown}

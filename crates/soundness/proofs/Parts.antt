@@ -4,11 +4,11 @@ use mathlib.Core.Logic.{_↔_}
 use Prim.Native.Nat.{ℕ, _*_, _≤_, _<_}
 use native.Mathlib.Omega.{arith}
 use lib.ListN.{length, length-map}
-use Rattle.chain.specs.Lists.{Among}
-use Rattle.chain.specs.Chain.{end}
-use Rattle.chain.specs.Filing.{Queue}
-use Rattle.chain.proofs.Lists.{all-map, all-zip}
-use Rattle.chain.proofs.Stretch.{below, once}
+use Rattle.laws_chain.specs.Lists.{Among}
+use Rattle.laws_chain.specs.Chain.{end}
+use Rattle.laws_chain.specs.Filing.{Queue}
+use Rattle.laws_chain.proofs.Lists.{all-map, all-zip}
+use Rattle.laws_chain.proofs.Stretch.{below, once}
 use Rattle.kernel.specs.declared.State.{State}
 use Rattle.kernel.specs.Sizes.{task-count, semaphore-count, channel-count}
 use Rattle.kernel.specs.Status.{queue-count}

@@ -6,9 +6,9 @@ use Prim.Native.Nat.{ℕ, _-_, _≤_, _<_}
 use native.Mathlib.Omega.{arith}
 use lib.IntN.{ℤ}
 use lib.ListN.{length}
-use Rattle.chain.specs.Lists.{Among}
-use Rattle.chain.specs.Chain.{end, target, walk}
-use Rattle.chain.proofs.Tests.{Untested, test-end, test-out, test-step, test-not, Walking, onward, walking, at-task, goes-on, at-end, Ordered, ordered}
+use Rattle.laws_chain.specs.Lists.{Among}
+use Rattle.laws_chain.specs.Chain.{end, target, walk}
+use Rattle.laws_chain.proofs.Tests.{Untested, test-end, test-out, test-step, test-not, Walking, onward, walking, at-task, goes-on, at-end, Ordered, ordered}
 use Rattle.kernel.specs.declared.State.{State}
 use Rattle.kernel.specs.Sizes.{task-count}
 use Rattle.kernel.specs.Status.{queue-of, queue-count}

@@ -1,8 +1,8 @@
 -- What the test asks of each queue and of each task, so that the links hold the queues. Assumes nothing.
 use mathlib.Core.Path.{_≡_}
 use Prim.Native.Nat.{ℕ, _≤_, _<_}
-use Rattle.chain.specs.Lists.{All, Among, Rising}
-use Rattle.chain.specs.Chain.{end}
+use Rattle.laws_chain.specs.Lists.{All, Among, Rising}
+use Rattle.laws_chain.specs.Chain.{end}
 use Rattle.kernel.specs.declared.State.{State}
 use Rattle.kernel.specs.Status.{queue-count}
 use Rattle.kernel.specs.Kernel.{Kernel, queue}

@@ -3,7 +3,7 @@ ghost use mathlib.Core.Path.{_≡_};
 ghost use mathlib.Core.Bool.{true};
 ghost use mathlib.Core.Logic.{_↔_};
 ghost use Prim.Native.Nat.{ℕ, _<_};
-ghost use Rattle.chain.specs.Lists.{Among};
+ghost use Rattle.laws_chain.specs.Lists.{Among};
 ghost use Rattle.kernel.specs.Sizes.{task-count};
 ghost use Rattle.kernel.specs.Status.{queue-count};
 ghost use Rattle.kernel.specs.Kernel.{queue};
@@ -172,20 +172,20 @@ pub fn sound(s: State) -> bool
     if !tasks_filed(s) {
         return false;
     }
-    if !clauses::tasks_good(s) {
+    if !sound_clauses::tasks_good(s) {
         return false;
     }
-    if !clauses::running_good(s) {
+    if !sound_clauses::running_good(s) {
         return false;
     }
-    if !clauses::shares_good(s) {
+    if !sound_clauses::shares_good(s) {
         return false;
     }
-    if !clauses::semaphores_good(s) {
+    if !sound_clauses::semaphores_good(s) {
         return false;
     }
-    if !clauses::clock_good(s) {
+    if !sound_clauses::clock_good(s) {
         return false;
     }
-    sessions::channels_good(s)
+    sound_sessions::channels_good(s)
 }

@@ -11,11 +11,11 @@ use Rattle.kernel.specs.Tick.{free-zombies, overrun}
 use Rattle.kernel.specs.Calls.{tick}
 use Rattle.kernel.specs.Seen.{seen}
 use Rattle.kernel.proofs.Deadlines.{before-lifetime}
-use Rattle.effects.specs.UnderWay.{Freeing, Ticking}
-use Rattle.effects.proofs.Steady.{earliest}
-use Rattle.effects.proofs.Sweep.{all-swept}
-use Rattle.effects.proofs.Ticking.{begins}
-use Rattle.effects.proofs.Due.{frees}
+use Rattle.laws_effects.specs.UnderWay.{Freeing, Ticking}
+use Rattle.laws_effects.proofs.Steady.{earliest}
+use Rattle.laws_effects.proofs.Sweep.{all-swept}
+use Rattle.laws_effects.proofs.Ticking.{begins}
+use Rattle.laws_effects.proofs.Due.{frees}
 use Rattle.refusals.specs.Tested.{Legal}
 use Rattle.refusals.proofs.Answers.{allows}
 

@@ -8,7 +8,7 @@ use Rattle.kernel.specs.Sizes.{task-count}
 use Rattle.kernel.specs.Kernel.{Kernel, queue}
 use Rattle.kernel.specs.Seen.{seen}
 use Rattle.kernel.specs.Shows.{Kept, Shows}
-use Rattle.effects.proofs.Sweep.{swept, Acts, sweep-none, one-swept}
+use Rattle.laws_effects.proofs.Sweep.{swept, Acts, sweep-none, one-swept}
 use Rattle.ticks.specs.Due.{FirstDue}
 
 -- From state s the loop has come to state r, where x is the first task that is due: what is left to sweep comes to the same.

@@ -9,8 +9,8 @@ ghost use Rattle.kernel.specs.Calls as Calls;
 ghost use Rattle.kernel.specs.Seen.{seen};
 ghost use Rattle.kernel.specs.Shows.{Kept, Shows};
 ghost use Rattle.kernel.specs.Promise.{Unlent};
-ghost use Rattle.effects.specs.UnderWay.{Freeing, Ticking};
-ghost use Rattle.clauses.specs.Task.{HardFits};
+ghost use Rattle.laws_effects.specs.UnderWay.{Freeing, Ticking};
+ghost use Rattle.sound_clauses.specs.Task.{HardFits};
 ghost use Rattle.refusals.specs.Tested.{Legal};
 ghost use Rattle.ticks.specs.Due.{FirstDue};
 use kernel::Class;
@@ -43,7 +43,7 @@ fn free(s: State, x: usize) -> State
     let t = s.tasks[x];
     let class = t.class;
     let total = s.share as u64;
-    let share = clauses::share_of(class);
+    let share = sound_clauses::share_of(class);
     let left = total - share;
     let mut r = queues::move_task(s, x, Class::Nrt { priority: 0 }, Status::Free, 0);
     r.share = left as u32;
@@ -102,7 +102,7 @@ fn overrun(s: State) -> bool
     let i = s.running.0;
     let t = s.tasks[i];
     let class = t.class;
-    if clauses::is_hard(class) {
+    if sound_clauses::is_hard(class) {
         return t.deadline < s.clock;
     }
     false

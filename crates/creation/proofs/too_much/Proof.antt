@@ -10,7 +10,7 @@ use Rattle.kernel.specs.declared.Class.the-variants.{Hard}
 use Rattle.kernel.specs.Sizes.{whole}
 use Rattle.kernel.specs.Good.{Fits}
 use Rattle.kernel.proofs.Allowed.{sizes-fit}
-use Rattle.clauses.proofs.Sum.{share-most}
+use Rattle.sound_clauses.proofs.Sum.{share-most}
 use Rattle.creation.proofs.Sizes.{passes}
 use Rattle.creation.proofs.too_much.Statement.{statement}
 use Rattle.creation.proofs.too_much.Tie as tie

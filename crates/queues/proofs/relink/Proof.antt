@@ -5,7 +5,7 @@ use mir.Syntax.{w8}
 use mir.Val.{toZ, ofZ}
 use borrow.Author.Needs.{needs}
 use borrow.Author.Tests.{lt-ltb, le-ltb}
-use Rattle.chain.specs.Chain.{target}
+use Rattle.laws_chain.specs.Chain.{target}
 use Rattle.kernel.specs.Sizes.{task-count}
 use Rattle.queues.specs.Links.{with-next, with-previous, relinked}
 use Rattle.queues.proofs.relink.Statement.{statement}

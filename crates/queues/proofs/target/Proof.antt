@@ -5,7 +5,7 @@ use lib.Signed.{natAbs-le}
 use mir.Facts.{toZ-ofZ}
 use mir.Syntax.{w8}
 use mir.Val.{toZ, ofZ}
-use Rattle.chain.proofs.Links.{below-zero, not-below-zero}
+use Rattle.laws_chain.proofs.Links.{below-zero, not-below-zero}
 use Rattle.kernel.specs.Sizes.{task-count}
 use Rattle.queues.proofs.target.Statement.{statement}
 use Rattle.queues.proofs.target.Tie as tie

@@ -7,7 +7,7 @@ use lib.ListN.{length}
 use mir.Syntax.{w8}
 use mir.Val.{toZ, ofZ}
 use borrow.Author.Needs.{needs}
-use Rattle.chain.specs.Chain.{target}
+use Rattle.laws_chain.specs.Chain.{target}
 use Rattle.kernel.specs.declared.State.{State}
 use Rattle.kernel.specs.Status.{queue-count}
 use Rattle.kernel.specs.Seen.{next-of, previous-of, head-of}

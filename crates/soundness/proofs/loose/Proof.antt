@@ -5,7 +5,7 @@ use mathlib.Core.Logic.{_↔_}
 use mir.Syntax.{w8}
 use mir.Val.{toZ, ofZ}
 use borrow.Author.Needs.{needs}
-use Rattle.chain.specs.Chain.{end}
+use Rattle.laws_chain.specs.Chain.{end}
 use Rattle.kernel.specs.Seen.{next-of, previous-of}
 use Rattle.kernel.proofs.Decided.{no, refused, passed, means}
 use Rattle.soundness.proofs.loose.Statement.{statement}

@@ -4,7 +4,7 @@ use lib.ListN.{length}
 use mir.Syntax.{w8}
 use mir.Val.{toZ, ofZ}
 use borrow.Author.Needs.{needs}
-use Rattle.chain.specs.Lists.{Among}
+use Rattle.laws_chain.specs.Lists.{Among}
 use Rattle.kernel.specs.Status.{queue-count}
 use Rattle.kernel.specs.Kernel.{queue}
 use Rattle.kernel.specs.Seen.{next-of, head-of, seen}

@@ -3,7 +3,7 @@ use native.Mathlib.Omega.{arith}
 use borrow.Author.Needs.{needs}
 use Rattle.kernel.specs.Seen.{seen}
 use Rattle.kernel.proofs.Seen.{task-seen}
-use Rattle.effects.proofs.Sweep.{none-due}
+use Rattle.laws_effects.proofs.Sweep.{none-due}
 use Rattle.ticks.proofs.first_due.Statement.{statement}
 use Rattle.ticks.proofs.first_due.Tie as tie
 

@@ -7,9 +7,9 @@ use Rattle.kernel.specs.Status.{zombie}
 use Rattle.kernel.specs.Kernel.{queue}
 use Rattle.kernel.specs.Tick.{free, free-zombies}
 use Rattle.kernel.specs.Seen.{seen}
-use Rattle.effects.specs.UnderWay.{Freeing}
-use Rattle.effects.proofs.Due.{share-part, first-zombie, frees}
-use Rattle.clauses.proofs.Sum.{hard-fits}
+use Rattle.laws_effects.specs.UnderWay.{Freeing}
+use Rattle.laws_effects.proofs.Due.{share-part, first-zombie, frees}
+use Rattle.sound_clauses.proofs.Sum.{hard-fits}
 use Rattle.ticks.proofs.Sweeping.{Sweeping, ended, again, fewer}
 use Rattle.ticks.proofs.free_zombies.Statement.{statement}
 use Rattle.ticks.proofs.free_zombies.Tie as tie

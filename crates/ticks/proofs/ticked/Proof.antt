@@ -7,7 +7,7 @@ use Rattle.kernel.specs.Tick.{wake-idle}
 use Rattle.kernel.specs.Seen.{seen}
 use Rattle.kernel.specs.Shows.{Shows}
 use Rattle.kernel.proofs.Shows.{kept, beside, then}
-use Rattle.effects.specs.UnderWay.{Freeing, Ticking}
+use Rattle.laws_effects.specs.UnderWay.{Freeing, Ticking}
 use Rattle.ticks.proofs.Cases.{expires, overruns, goes}
 use Rattle.ticks.proofs.Begun.{begun, zombies-gone}
 use Rattle.ticks.proofs.ticked.Statement.{statement}

@@ -14,8 +14,8 @@ use Rattle.kernel.specs.Seen.{seen}
 use Rattle.kernel.specs.Shows.{Shows}
 use Rattle.kernel.proofs.Shows.{then}
 use Rattle.kernel.proofs.Deadlines.{period-most}
-use Rattle.effects.specs.UnderWay.{Ticking}
-use Rattle.effects.proofs.Due.{wakes}
+use Rattle.laws_effects.specs.UnderWay.{Ticking}
+use Rattle.laws_effects.proofs.Due.{wakes}
 use Rattle.ticks.proofs.Cases.{none-wakes, some-wakes}
 use Rattle.ticks.proofs.Sweeping.{Sweeping, ended, again, fewer}
 use Rattle.ticks.proofs.wake_idle.Statement.{statement}

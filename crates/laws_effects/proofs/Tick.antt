@@ -1,0 +1,50 @@
+-- A tick keeps the kernel good. Assumes nothing.
+use mathlib.Core.Path.{_≡_, refl, sym, subst}
+use mathlib.Core.Bool.{Bool, true, false, cond}
+use Prim.Native.Nat.{_+_, _<_}
+use native.Mathlib.Omega.{arith}
+use lib.Dec.{eqb}
+use borrow.Author.Tests.{eqb-true, eqb-false}
+use Rattle.kernel.specs.declared.Stop.the-variants.{Overrun, Lifetime}
+use Rattle.kernel.specs.Sizes.{lifetime}
+use Rattle.kernel.specs.Status.{idle, zombie, stop-number}
+use Rattle.kernel.specs.Kernel.{Kernel, queue, with-clock, with-stop}
+use Rattle.kernel.specs.Moves.{schedule}
+use Rattle.kernel.specs.Tick.{wake, any-due, free-zombies, wake-idle, overrun, tick}
+use Rattle.kernel.specs.Good.{Good}
+use Rattle.kernel.proofs.Deadlines.{before-lifetime}
+use Rattle.laws_effects.specs.UnderWay.{Freeing}
+use Rattle.laws_effects.proofs.Steady.{earliest, good}
+use Rattle.laws_effects.proofs.Processor.{scheduled}
+use Rattle.laws_effects.proofs.Sweep.{swept, none-any, sweep-none, all-swept}
+use Rattle.laws_effects.proofs.Ticking.{stopped, begins, goes-on}
+use Rattle.laws_effects.proofs.Due.{frees, wakes}
+
+-- Where none wakes the running task is still the earliest; else there is a schedule.
+wake-idle-good : {k : Kernel} → Freeing k → Good (wake-idle k)
+unfolding wake-idle
+wake-idle-good {k} p = go (any-due k (queue k idle)) refl
+  where
+    go : (b : Bool) → any-due k (queue k idle) ≡ b → Good (cond b (schedule (swept wake idle k)) (swept wake idle k))
+    go true e = let w = all-swept wakes k (queue k idle) (p .0) refl in scheduled (goes-on (w .0) (w .1)) (w .0 .running)
+    go false e =
+        let none = none-any k (queue k idle) e in
+        subst Good (sym (sweep-none k wake (queue k idle) none)) (good (goes-on (p .0) none) (p .0 .running) (p .1))
+
+-- **ticked**: a tick keeps the kernel good, whether it stops it or not.
+module _ {k : Kernel} (g : Good k) (going : stop-number (k .stop) ≡ 0) where
+  abbrev j : Kernel
+  j = with-clock k (k .clock + 1)
+
+  goes : (b : Bool) → overrun j ≡ b → k .clock + 1 < lifetime → Good (cond b (with-stop j Overrun) (wake-idle (free-zombies j)))
+  unfolding free-zombies
+  goes true e l = stopped k (k .clock + 1) Overrun (omega arith) (omega arith) (omega arith) (omega arith) g
+  goes false e l = wake-idle-good (all-swept frees j (queue j zombie) (begins g going l e, earliest g) refl .0)
+
+  lives : (b : Bool) → eqb (k .clock + 1) lifetime ≡ b → Good (cond b (with-stop j Lifetime) (cond (overrun j) (with-stop j Overrun) (wake-idle (free-zombies j))))
+  lives true e = let z = eqb-true (k .clock + 1) lifetime e in stopped k (k .clock + 1) Lifetime (omega arith) (omega arith) (omega arith) (omega arith) g
+  lives false e = goes (overrun j) refl (omega (arith, before-lifetime g going, eqb-false (k .clock + 1) lifetime e))
+
+  pub ticked : Good (tick k)
+  unfolding tick
+  ticked = lives (eqb (k .clock + 1) lifetime) refl

@@ -1,0 +1,203 @@
+-- First joined, first taken, over every call. Assumes nothing.
+use mathlib.Core.Path.{_≡_, refl, sym}
+use mathlib.Core.Bool.{Bool, true, false, cond}
+use mathlib.Core.List.{List, [], _∷_}
+use mathlib.Core.Option.{Option, none, some}
+use Prim.Native.Nat.{ℕ, _+_, _<_}
+use native.Mathlib.Omega.{arith}
+use lib.Dec.{ltb, eqb}
+use lib.IntN.{ℤ}
+use borrow.Author.Tests.{eqb-false}
+use Rattle.kernel.specs.declared.Class.{Class}
+use Rattle.kernel.specs.declared.Class.the-variants.{Nrt, Hard}
+use Rattle.kernel.specs.declared.Stop.the-variants.{Overrun, Lifetime}
+use Rattle.kernel.specs.Sizes.{task-count, semaphore-count, lifetime}
+use Rattle.kernel.specs.Status.{FREE, READY, EXE, SLEEP, status-number, idle, zombie, waiters, stop-number}
+use Rattle.kernel.specs.Kernel.{Bare, Kernel, task, queue, semaphore, blank, is, with-clock, with-stop}
+use Rattle.kernel.specs.Moves.{move, schedule}
+use Rattle.kernel.specs.Tick as Tick
+use Rattle.kernel.specs.Tick.{free, wake, any-due, free-zombies, wake-idle, overrun}
+use Rattle.kernel.specs.Tasks as Tasks
+use Rattle.kernel.specs.Tasks.{lowest-free, finish, ended}
+use Rattle.kernel.specs.Semaphores as Semaphores
+use Rattle.kernel.specs.Semaphores.{signal-to}
+use Rattle.kernel.specs.Channels as Channels
+use Rattle.kernel.specs.Calls.{Call, tick, create-hard, create-nrt, activate, sleep, cycle, end, kill, new-semaphore, delete, wait, signal, clock, status, deadline, period, slack, open-channel, begin-write, piece, put, begin-reading, showing, close, screen, effect}
+use Rattle.kernel.specs.Refusals.{Handed, first, rows}
+use Rattle.kernel.specs.Step.{by-table, step}
+use Rattle.kernel.specs.Good.{Good}
+use Rattle.kernel.proofs.Allowed.{Allowed, allowed}
+use Rattle.kernel.proofs.Deadlines.{before-lifetime}
+use Rattle.kernel.proofs.Lowest.{found}
+use Rattle.laws_effects.specs.UnderWay.{Freeing, Ticking}
+use Rattle.laws_effects.proofs.Standing.{stands}
+use Rattle.laws_effects.proofs.Steady.{earliest, exe}
+use Rattle.laws_effects.proofs.Sweep.{Acts, all-swept}
+use Rattle.laws_effects.proofs.Ticking.{begins}
+use Rattle.laws_effects.proofs.Due.{awake, first-zombie, first-idle, frees, wakes}
+use Rattle.laws_effects.proofs.Tasks.{ended-not-ready}
+use Rattle.laws_promises.specs.Fair.{Fair}
+use Rattle.laws_promises.proofs.Earliest.{in-order, tie-rule}
+use Rattle.laws_promises.proofs.Joining.{Onward, moves, beside, leaves, Orderly, runs-on, unmoved, still-orderly, dispatches, gives-way, schedules}
+
+either : {k i j : Kernel} (b : Bool) → Fair k i → Fair k j → Fair k (cond b i j)
+either true x y = x
+either false x y = y
+
+-- ---- the tick
+
+ticking-orderly : {k : Kernel} → Ticking k → Orderly k
+ticking-orderly t =
+    let s = t .steady in
+    record {
+      order = record { tasks = s .sized .tasks; lists = s .sized .queues; queues = s .queues };
+      is-task = t .running;
+      runs = λ h. let z = h .status in omega (arith, exe s (t .running));
+    }
+
+-- A sweep keeps what each of its steps keeps.
+also : {P Q : Kernel → Type 0} {f : Kernel → ℕ → Kernel} {q : ℕ} → Acts P f q → ((k : Kernel) (x : ℕ) (xs : List ℕ) → P k → queue k q ≡ x ∷ xs → Q k → Q (f k x))
+    → Acts (λ k. P k × Q k) f q
+also h keeps =
+    record {
+      rising = λ p. h .rising (p .0);
+      acts = λ {k} {x} {xs} p e due. let n = h .acts (p .0) e due in ((n .0, keeps k x xs (p .0) e (p .1)), n .1);
+    }
+
+-- Whoever goes or wakes was not ready.
+module _ (from : Kernel) where
+  frees-fair : Acts (λ k. Freeing k × Onward from k) free zombie
+  unfolding free
+  frees-fair =
+      also frees
+      (λ k x xs p e on l f.
+      let i = first-zombie (p .0) e in
+      on l (moves (ticking-orderly (p .0) .order) x blank (i .0) (λ h. let z = h .status in omega (arith, i .1)) l (beside refl refl l f)))
+
+  wakes-fair : Acts (λ k. Ticking k × Onward from k) wake idle
+  unfolding wake
+  wakes-fair =
+      also wakes
+      (λ k x xs t e on l f.
+      let i = first-idle t e in
+      on l (moves (ticking-orderly t .order) x (awake (task k x)) (i .0) (λ h. let z = h .status in omega (arith, i .1)) l f))
+
+  wakes-up : {k : Kernel} → Ticking k → Onward from k → Fair from (wake-idle k)
+  unfolding wake-idle
+  wakes-up {k} t on =
+      let w = all-swept wakes-fair k (queue k idle) (t, on) refl .0 in
+      let o = ticking-orderly (w .0) in
+      either (any-due k (queue k idle)) (w .1 _ (schedules o)) (w .1 _ (unmoved o refl refl refl))
+
+module _ {k : Kernel} (g : Good k) where
+  -- In a good kernel the running task is EXE.
+  o : Orderly k
+  o =
+      record {
+        order = in-order g;
+        is-task = g .runs .running;
+        runs = λ h. let z = h .status in omega (arith, g .tasks (k .running) (g .runs .running) .exe .1 refl);
+      }
+
+  ticks : stop-number (k .stop) ≡ 0 → Fair k (Tick.tick k)
+  unfolding Tick.tick free-zombies
+  ticks going = lives (eqb (k .clock + 1) lifetime) refl
+    where
+      j : Kernel
+      j = with-clock k (k .clock + 1)
+
+      goes : (b : Bool) → overrun j ≡ b → k .clock + 1 < lifetime → Fair k (cond b (with-stop j Overrun) (wake-idle (free-zombies j)))
+      goes true e l = unmoved o refl refl refl
+      goes false e l =
+          let f = all-swept (frees-fair k) j (queue j zombie) ((begins g going l e, earliest g), beside refl refl) refl .0 in
+          wakes-up k (f .0 .0) (f .1)
+
+      lives : (b : Bool) → eqb (k .clock + 1) lifetime ≡ b → Fair k (cond b (with-stop j Lifetime) (cond (overrun j) (with-stop j Overrun) (wake-idle (free-zombies j))))
+      lives true e = unmoved o refl refl refl
+      lives false e = goes (overrun j) refl (omega (arith, before-lifetime g going, eqb-false (k .clock + 1) lifetime e))
+
+  creates : (c : Class) → (lowest-free k ≡ task-count → ⊥) → Fair k (Tasks.create c k)
+  unfolding move Tasks.create lowest-free
+  creates c there-is = leaves (o .order) (lowest-free k) _ (found task-count (λ x. is FREE (task k x)) there-is .0) (omega arith) refl refl (runs-on o)
+
+  -- A task that neither is ready nor runs becomes ready, and schedule.
+  readied : (i : ℕ) (a : Bare) → i < task-count → (status-number (task k i .status) ≡ READY → ⊥) → (status-number (task k i .status) ≡ EXE → ⊥)
+      → Fair k (schedule (move k i a))
+  readied i a l not-ready not-exe =
+      moves (o .order) i a l (λ h. not-ready (h .status)) _ (schedules (still-orderly o i a l (λ z. not-exe (g .tasks i l .exe .1 (sym z)))))
+
+  activates : (n : ℕ) → n < task-count → status-number (task k n .status) ≡ SLEEP → Fair k (Tasks.activate n k)
+  unfolding Tasks.activate
+  activates n l e = readied n _ l (omega arith) (omega arith)
+
+  ends : Fair k (Tasks.end k)
+  unfolding move Tasks.end finish
+  ends =
+      let r = k .running in
+      let again = tie-rule (o .order) .again r (ended (task k r) (task k r .class)) (o .is-task) in
+      moves (o .order) r _ (o .is-task) (o .runs) _ (beside refl refl _ (dispatches (record { tasks = again .tasks; lists = again .lists; queues = again .queues })))
+
+  kills : (n : ℕ) → n < task-count → Fair k (Tasks.kill n k)
+  unfolding move Tasks.kill finish
+  kills n l =
+      either (eqb n (k .running)) ends
+      (leaves (o .order) n _ l (ended-not-ready (task k n) (task k n .class)) refl refl (runs-on o))
+
+  waits : (s : ℕ) → Fair k (Semaphores.wait s k)
+  unfolding Semaphores.wait
+  waits s = either (ltb 0 (semaphore k s .count)) (unmoved o refl refl refl) (gives-way o _)
+
+  signals : (s : ℕ) → s < semaphore-count → Fair k (Semaphores.signal s k)
+  unfolding Semaphores.signal
+  signals s l = go (queue k (waiters s)) refl
+    where
+      go : (xs : List ℕ) → queue k (waiters s) ≡ xs → Fair k (signal-to s k xs)
+      go [] e = unmoved o refl refl refl
+      go (x ∷ xs) e =
+          let i = (rw e at (g .queues (waiters s) (omega arith) .only)) .0 in
+          let waits = stands (task k x .status) .in-waiters s l (i .1) in
+          readied x _ (i .0) (omega arith) (omega arith)
+
+is-fair : (c : Call) (k : Kernel) (m : List ℕ) → Good k → stop-number (k .stop) ≡ 0 → Allowed c k m → Fair k (effect c k m .kernel)
+unfolding effect Tasks.sleep Tasks.cycle Semaphores.new-semaphore Semaphores.delete Channels.open-channel Channels.begin-write Channels.put Channels.begin-reading Channels.close
+is-fair tick k m g r a = ticks g r
+is-fair (create-hard p c) k m g r a = creates g (Hard p c) (a .1)
+is-fair (create-nrt p) k m g r a = creates g (Nrt p) (a .1)
+is-fair (activate n) k m g r a = activates g n (a .0) (a .1)
+is-fair sleep k m g r a = gives-way (o g) _
+is-fair cycle k m g r a = gives-way (o g) _
+is-fair end k m g r a = ends g
+is-fair (kill n) k m g r a = kills g n (a .1 .0)
+is-fair (new-semaphore n) k m g r a = unmoved (o g) refl refl refl
+is-fair (delete s) k m g r a = unmoved (o g) refl refl refl
+is-fair (wait s) k m g r a = waits g s
+is-fair (signal s) k m g r a = signals g s (a .0 .0)
+is-fair clock k m g r a = unmoved (o g) refl refl refl
+is-fair (status n) k m g r a = unmoved (o g) refl refl refl
+is-fair (deadline n) k m g r a = unmoved (o g) refl refl refl
+is-fair (period n) k m g r a = unmoved (o g) refl refl refl
+is-fair (slack n) k m g r a = unmoved (o g) refl refl refl
+is-fair (open-channel n b) k m g r a = unmoved (o g) refl refl refl
+is-fair (begin-write c) k m g r a = unmoved (o g) refl refl refl
+is-fair (piece c b bs) k m g r a = unmoved (o g) refl refl refl
+is-fair (put c) k m g r a = unmoved (o g) refl refl refl
+is-fair (begin-reading c) k m g r a = unmoved (o g) refl refl refl
+is-fair (showing c) k m g r a = unmoved (o g) refl refl refl
+is-fair (close c) k m g r a = unmoved (o g) refl refl refl
+is-fair (screen c text) k m g r a = unmoved (o g) refl refl refl
+
+-- **call-fair**: a call to which no row applies is fair.
+pub call-fair : (c : Call) (k : Kernel) (m : List ℕ) → Good k → first (rows c (record { sound = true; kernel = k; memory = m })) ≡ none → Fair k (effect c k m .kernel)
+call-fair c k m g e = let a = allowed (record { sound = true; kernel = k; memory = m }) c e in is-fair c k m g (a .going) (a .allowed)
+
+-- **step-fair**: and so is every call, refused or not.
+pub step-fair : (c : Call) (k : Kernel) (m : List ℕ) → Good k → Fair k (step c (record { sound = true; kernel = k; memory = m }) .kernel)
+unfolding step
+step-fair c k m g = go (first (rows c h)) refl
+  where
+    h : Handed
+    h = record { sound = true; kernel = k; memory = m }
+
+    go : (r : Option ℤ) → first (rows c h) ≡ r → Fair k (by-table r (effect c k m) h .kernel)
+    go (some n) e = unmoved (o g) refl refl refl
+    go none e = call-fair c k m g e

@@ -1,0 +1,365 @@
+// Document 01's clauses of soundness that look at no link.
+ghost use mathlib.Core.Path.{_≡_};
+ghost use mathlib.Core.Bool.{true};
+ghost use mathlib.Core.Logic.{_↔_, _⊎_};
+ghost use Prim.Native.Nat.{ℕ, _<_, _≤_};
+ghost use Rattle.kernel.specs.declared.Class.the-variants.{Nrt, Hard};
+ghost use Rattle.kernel.specs.declared.Status.the-variants.{Wait};
+ghost use Rattle.kernel.specs.Sizes.{task-count, semaphore-count};
+ghost use Rattle.kernel.specs.Status.{READY, EXE, ready};
+ghost use Rattle.kernel.specs.Kernel.{Kernel, task, queue, hard, share, share-of};
+ghost use Rattle.kernel.specs.Seen.{bare, seen};
+ghost use Rattle.kernel.specs.Good.{NoLater, Fits, Timely, Names, MainOrSized, Suited, IdleAhead, InTime, Runs, Shared, Counted, Clocked, GoodTask, GoodSemaphore, held-share};
+ghost use Rattle.sound_clauses.specs.Task.{Around, HardFits};
+use kernel::Class;
+use kernel::Semaphore;
+use kernel::SemaphoreNo;
+use kernel::State;
+use kernel::Status;
+use kernel::Stop;
+use kernel::Task;
+
+// Whether a class is NRT of that priority.
+fn is_nrt(class: Class, priority: u8) -> bool
+    ensures { λ r. ⌜ ((r ≡ true) ↔ (class ≡ Nrt priority)) ⌝ }
+{
+    match class {
+        Class::Nrt { priority: p } => p == priority,
+        Class::Hard { period: _, cost: _ } => false,
+    }
+}
+
+// Whether a class is HARD.
+pub fn is_hard(class: Class) -> bool
+    ensures { λ r. ⌜ r ≡ hard class ⌝ }
+{
+    match class {
+        Class::Nrt { priority: _ } => false,
+        Class::Hard { period: _, cost: _ } => true,
+    }
+}
+
+// A cost from 1 to the period leaves no period of 0.
+fn hard_fits(period: u32, cost: u32) -> bool
+    ensures { λ r. ⌜ ((r ≡ true) ↔ Fits (Hard period cost)) ⌝ }
+{
+    if State::LONGEST_PERIOD < period {
+        return false;
+    }
+    if cost < 1 {
+        return false;
+    }
+    cost <= period
+}
+
+// Whether a class keeps the sizes.
+fn fits(class: Class) -> bool
+    ensures { λ r. ⌜ ((r ≡ true) ↔ Fits class) ⌝ }
+{
+    match class {
+        Class::Nrt { priority } => priority <= State::LAST_PRIORITY,
+        Class::Hard { period, cost } => hard_fits(period, cost),
+    }
+}
+
+// Whether task x is EXE exactly where it is the stored one.
+fn exe_stored(n: usize, x: usize, running: usize) -> bool
+    ensures { λ r. ⌜ ((r ≡ true) ↔ ((n ≡ EXE) ↔ (x ≡ running))) ⌝ }
+{
+    if n == Status::EXE {
+        return x == running;
+    }
+    x != running
+}
+
+// Whether a status of number n is EXE or READY.
+fn exe_or_ready(n: usize) -> bool
+    ensures { λ r. ⌜ ((r ≡ true) ↔ ((n ≡ EXE) ⊎ (n ≡ READY))) ⌝ }
+{
+    if n == Status::EXE {
+        return true;
+    }
+    n == Status::READY
+}
+
+// Whether task x is what its number asks: the main task for 0, one that keeps the sizes for others.
+fn main_or_sized(x: usize, class: Class, n: usize) -> bool
+    ensures { λ r. ⌜ ((r ≡ true) ↔ MainOrSized x class n) ⌝ }
+{
+    if x != 0 {
+        return fits(class);
+    }
+    if !is_nrt(class, State::MAIN_PRIORITY) {
+        return false;
+    }
+    exe_or_ready(n)
+}
+
+// Whether a deadline is one that class and status allow.
+fn timely(clock: u32, class: Class, n: usize, deadline: u32) -> bool
+    ensures { λ r. ⌜ ((r ≡ true) ↔ Timely clock class n deadline) ⌝ }
+{
+    match class {
+        Class::Nrt { priority } => {
+            if n != Status::FREE {
+                deadline == State::NRT_DEADLINE + priority as u32
+            } else {
+                deadline == 0
+            }
+        }
+        Class::Hard { period, cost: _ } => deadline as u64 <= clock as u64 + period as u64,
+    }
+}
+
+// Whether the class allows a status of number n.
+fn suited(class: Class, n: usize) -> bool
+    ensures { λ r. ⌜ ((r ≡ true) ↔ Suited class n) ⌝ }
+{
+    if n == Status::FREE {
+        return is_nrt(class, 0);
+    }
+    if n == Status::WAIT {
+        return !is_hard(class);
+    }
+    if n == Status::IDLE {
+        return is_hard(class);
+    }
+    if n == Status::ZOMBIE {
+        return is_hard(class);
+    }
+    true
+}
+
+// Whether an IDLE deadline is above the clock, if not stopped.
+fn idle_ahead(stop: usize, n: usize, clock: u32, deadline: u32) -> bool
+    ensures { λ r. ⌜ ((r ≡ true) ↔ IdleAhead stop n clock deadline) ⌝ }
+{
+    if n != Status::IDLE {
+        return true;
+    }
+    if stop != Stop::GOING {
+        return true;
+    }
+    clock < deadline
+}
+
+// Whether a number is that of a used semaphore.
+fn used(semaphores: [Semaphore; State::SEMAPHORES], semaphore: SemaphoreNo) -> bool
+    ensures { λ r. ⌜ ((k : Kernel) → k .semaphores ≡ semaphores → ((r ≡ true) ↔ Names k (Wait semaphore))) ⌝ }
+{
+    let n = semaphore.0;
+    if n < State::SEMAPHORES {
+        let entry = semaphores[n];
+        return entry.used;
+    }
+    false
+}
+
+// Whether a status, if it is WAIT, names a used semaphore.
+fn names(semaphores: [Semaphore; State::SEMAPHORES], status: Status) -> bool
+    ensures { λ r. ⌜ ((k : Kernel) → k .semaphores ≡ semaphores → ((r ≡ true) ↔ Names k status)) ⌝ }
+{
+    match status {
+        Status::Free => true,
+        Status::Sleep => true,
+        Status::Exe => true,
+        Status::Ready => true,
+        Status::Idle => true,
+        Status::Zombie => true,
+        Status::Wait(semaphore) => used(semaphores, semaphore),
+    }
+}
+
+// Whether task x, with the record a, is good in a kernel of that clock, stop number, running task and semaphores.
+fn task_good(
+    clock: u32,
+    stop: usize,
+    running: usize,
+    semaphores: [Semaphore; State::SEMAPHORES],
+    x: usize,
+    a: Task,
+) -> bool
+    ensures { λ r. ⌜ ((k : Kernel) → Around k clock stop running semaphores → ((r ≡ true) ↔ GoodTask k x (bare a))) ⌝ }
+{
+    let class = a.class;
+    let status = a.status;
+    let n = kernel::status_number(status);
+    if !exe_stored(n, x, running) {
+        return false;
+    }
+    if !main_or_sized(x, class, n) {
+        return false;
+    }
+    if !timely(clock, class, n, a.deadline) {
+        return false;
+    }
+    if !suited(class, n) {
+        return false;
+    }
+    if !idle_ahead(stop, n, clock, a.deadline) {
+        return false;
+    }
+    names(semaphores, status)
+}
+
+// Whether every task is good.
+pub fn tasks_good(s: State) -> bool
+    ensures { λ r. ⌜ ((r ≡ true) ↔ ((x : ℕ) → x < task-count → GoodTask (seen s) x (task (seen s) x))) ⌝ }
+{
+    let clock = s.clock;
+    let reason = s.stop;
+    let stop = kernel::stop_number(reason);
+    let number = s.running;
+    let running = number.0;
+    let semaphores = s.semaphores;
+    let mut x: usize = 0;
+    while x < State::TASKS {
+        let a = s.tasks[x];
+        if !task_good(clock, stop, running, semaphores, x, a) {
+            return false;
+        }
+        x += 1;
+    }
+    true
+}
+
+// Whether deadline d is no later than the first ready one's.
+fn earliest(s: State, d: u32) -> bool
+    ensures { λ r. ⌜ ((r ≡ true) ↔ NoLater (seen s) d (queue (seen s) ready)) ⌝ }
+{
+    let first = queues::first(s, State::READY);
+    if first < State::TASKS {
+        let a = s.tasks[first];
+        return d <= a.deadline;
+    }
+    true
+}
+
+// Whether a running HARD deadline is not below the clock, if not stopped.
+fn in_time(stop: usize, class: Class, clock: u32, deadline: u32) -> bool
+    ensures { λ r. ⌜ ((r ≡ true) ↔ InTime stop class clock deadline) ⌝ }
+{
+    if stop != Stop::GOING {
+        return true;
+    }
+    if is_hard(class) {
+        return clock <= deadline;
+    }
+    true
+}
+
+// Whether the stored task is a task, no later than the first ready one, and in time.
+pub fn running_good(s: State) -> bool
+    ensures { λ r. ⌜ ((r ≡ true) ↔ Runs (seen s)) ⌝ }
+{
+    let number = s.running;
+    let running = number.0;
+    if State::TASKS <= running {
+        return false;
+    }
+    let a = s.tasks[running];
+    if !earliest(s, a.deadline) {
+        return false;
+    }
+    let reason = s.stop;
+    let stop = kernel::stop_number(reason);
+    let class = a.class;
+    in_time(stop, class, s.clock, a.deadline)
+}
+
+// A HARD task's share, rounded up.
+pub fn hard_share(period: u32, cost: u32) -> u64
+    requires { ⌜ 1 ≤ period ⌝ }
+    ensures { λ r. ⌜ r ≡ share period cost ⌝ }
+{
+    (cost as u64 * State::WHOLE as u64 + (period as u64 - 1)) / period as u64
+}
+
+// A class's share, 0 for NRT.
+pub fn share_of(class: Class) -> u64
+    requires { ⌜ HardFits class ⌝ }
+    ensures { λ r. ⌜ r ≡ share-of class ⌝ }
+{
+    match class {
+        Class::Nrt { priority: _ } => 0,
+        Class::Hard { period, cost } => hard_share(period, cost),
+    }
+}
+
+// What a task adds to the share total.
+fn held_share(a: Task) -> u64
+    requires { ⌜ HardFits (a .class) ⌝ }
+    ensures { λ r. ⌜ r ≡ held-share (bare a) ⌝ }
+{
+    let status = a.status;
+    let n = kernel::status_number(status);
+    let class = a.class;
+    if n != Status::FREE {
+        return share_of(class);
+    }
+    0
+}
+
+// Whether the stored share total is the sum of the shares, at most the whole.
+pub fn shares_good(s: State) -> bool
+    requires { ⌜ ((x : ℕ) → x < task-count → GoodTask (seen s) x (task (seen s) x)) ⌝ }
+    ensures { λ r. ⌜ ((r ≡ true) ↔ Shared (seen s)) ⌝ }
+{
+    let mut total: u64 = 0;
+    let mut x: usize = 0;
+    while x < State::TASKS {
+        let a = s.tasks[x];
+        total += held_share(a);
+        x += 1;
+    }
+    let share = s.share as u64;
+    if share != total {
+        return false;
+    }
+    share <= State::WHOLE as u64
+}
+
+// Whether a semaphore is good whose first waiter is `first`, no task's number where it has none.
+fn semaphore_good(a: Semaphore, first: usize) -> bool
+    ensures { λ r. ⌜ ((r ≡ true) ↔ Counted a (task-count ≤ first)) ⌝ }
+{
+    if first < State::TASKS {
+        if 0 < a.count {
+            return false;
+        }
+        return a.used;
+    }
+    if a.used {
+        return true;
+    }
+    a.count == 0
+}
+
+// Whether every semaphore is good.
+pub fn semaphores_good(s: State) -> bool
+    ensures { λ r. ⌜ ((r ≡ true) ↔ ((n : ℕ) → n < semaphore-count → GoodSemaphore (seen s) n)) ⌝ }
+{
+    let semaphores = s.semaphores;
+    let mut n: usize = 0;
+    while n < State::SEMAPHORES {
+        let a = semaphores[n];
+        let first = queues::first(s, State::WAITERS + n);
+        if !semaphore_good(a, first) {
+            return false;
+        }
+        n += 1;
+    }
+    true
+}
+
+// Whether the clock is in its lifetime, and at its end exactly when stopped with -2.
+pub fn clock_good(s: State) -> bool
+    ensures { λ r. ⌜ ((r ≡ true) ↔ Clocked (seen s)) ⌝ }
+{
+    let reason = s.stop;
+    let stop = kernel::stop_number(reason);
+    if stop == Stop::LIFETIME {
+        return s.clock == State::LIFETIME;
+    }
+    s.clock < State::LIFETIME
+}
