@@ -6,5 +6,6 @@ pub mod Played
 pub mod Only
 pub mod One
 pub mod Two
+pub mod Stops
 pub mod Three
 pub mod Example

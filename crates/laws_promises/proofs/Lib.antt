@@ -10,4 +10,5 @@ pub mod Earliest
 pub mod Joining
 pub mod Fair
 pub mod Memory
+pub mod Stops
 pub mod Showings

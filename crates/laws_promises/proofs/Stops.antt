@@ -1,0 +1,152 @@
+-- A tick stops the kernel where document 01 says so, and a stop changes only clock and stop reason. Assumes nothing.
+use mathlib.Core.Path.{_≡_, refl, ap, sym, subst, _∙_}
+use mathlib.Core.Bool.{Bool, true, false, true≢false, cond, and-eq-true-iff}
+use mathlib.Core.Logic.{_↔_}
+use mathlib.Core.List.{List, [], _∷_}
+use mathlib.Core.Option.{Option, none, some}
+use Prim.Native.Nat.{ℕ, _+_}
+use lib.IntN.{ℤ}
+use lib.Dec.{eqb, ltb}
+use borrow.Author.Tests.{eqb-true, eqb-false, ltb-true, lt-ltb}
+use Rattle.kernel.specs.declared.Stop.{Stop}
+use Rattle.kernel.specs.declared.Stop.the-variants.{Going, Overrun, Lifetime}
+use Rattle.kernel.specs.declared.State.{State}
+use Rattle.kernel.specs.Sizes.{lifetime}
+use Rattle.kernel.specs.Status.{ready, idle, zombie}
+use Rattle.kernel.specs.Kernel.{Kernel, task, queue, hard, with-clock, with-stop}
+use Rattle.kernel.specs.Moves.{move, run, dispatch, preempt, yield, schedule}
+use Rattle.kernel.specs.Tick as Tick
+use Rattle.kernel.specs.Tick.{due, sweep, free, wake, any-due, free-zombies, wake-idle, overrun}
+use Rattle.kernel.specs.Calls.{Call, tick, effect}
+use Rattle.kernel.specs.Seen.{seen}
+use Rattle.kernel.specs.Sound.{Sound}
+use Rattle.kernel.specs.Promise.{handed, Loan, Given, Answered}
+use Rattle.kernel.proofs.Allowed.{allowed}
+use Rattle.kernel.proofs.Shows.{kept, itself, beside}
+use Rattle.queues.proofs.Determined.{shows-once}
+use Rattle.laws_promises.specs.Outcome.{TookEffect}
+use Rattle.laws_promises.specs.Stops.{Late, Reason, Ticked, stopped, StopOnly}
+use Rattle.laws_promises.proofs.Answers.{By, says, by, takes-effect}
+
+-- ---- a tick that goes on leaves the stop reason
+
+either : (b : Bool) (i j : Kernel) {w : Stop} → i .stop ≡ w → j .stop ≡ w → cond b i j .stop ≡ w
+either true i j e f = e
+either false i j e f = f
+
+dispatches : (k : Kernel) → dispatch k .stop ≡ k .stop
+unfolding dispatch move
+dispatches k = go (queue k ready)
+  where
+    go : (xs : List ℕ) → run k xs .stop ≡ k .stop
+    go [] = refl
+    go (x ∷ xs) = refl
+
+preempts : (k : Kernel) → preempt k .stop ≡ k .stop
+unfolding preempt move
+preempts k = dispatches _
+
+schedules : (k : Kernel) → schedule k .stop ≡ k .stop
+unfolding schedule
+schedules k = go (queue k ready)
+  where
+    go : (xs : List ℕ) → yield k xs .stop ≡ k .stop
+    go [] = refl
+    go (x ∷ xs) = either (ltb (task k x .deadline) (task k (k .running) .deadline)) (preempt k) k (preempts k) refl
+
+sweeps : (f : Kernel → ℕ → Kernel) → ((k : Kernel) (x : ℕ) → f k x .stop ≡ k .stop) → (k : Kernel) (xs : List ℕ) → sweep f k xs .stop ≡ k .stop
+sweeps f each k [] = refl
+sweeps f each k (x ∷ xs) = sweeps f each (cond (due k x) (f k x) k) xs ∙ either (due k x) (f k x) k (each k x) refl
+
+frees : (k : Kernel) → free-zombies k .stop ≡ k .stop
+unfolding free-zombies free move
+frees k = sweeps free (λ j x. refl) k (queue k zombie)
+
+wakes : (k : Kernel) → wake-idle k .stop ≡ k .stop
+unfolding wake-idle wake move
+wakes k =
+    let swept = sweeps wake (λ j x. refl) k (queue k idle) in
+    either (any-due k (queue k idle)) _ _ (schedules _ ∙ swept) swept
+
+-- ---- the model's tick
+
+module _ (k : Kernel) where
+  -- There is one reason.
+  one-reason : (v w : Stop) → Reason k v → Reason k w → v ≡ w
+  one-reason Lifetime Lifetime p q = refl
+  one-reason Lifetime Overrun p q = absurd (q .0 p)
+  one-reason Lifetime Going p q = absurd (q .0 p)
+  one-reason Overrun Lifetime p q = absurd (p .0 q)
+  one-reason Overrun Overrun p q = refl
+  one-reason Overrun Going p q = absurd (q .1 (p .1))
+  one-reason Going Lifetime p q = absurd (p .0 q)
+  one-reason Going Overrun p q = absurd (p .1 (q .1))
+  one-reason Going Going p q = refl
+
+  exact : (v : Stop) → Reason k v → (w : Stop) → (v ≡ w) ↔ Reason k w
+  exact v r w = (λ e. subst (Reason k) e r, one-reason v w r)
+
+  abbrev later : Kernel
+  later = with-clock k (k .clock + 1)
+
+  late : (overrun later ≡ true) ↔ Late k
+  late =
+      let a = task k (k .running) in
+      let both = and-eq-true-iff (hard (a .class)) (ltb (a .deadline) (k .clock + 1)) in (
+        λ e. record { hard-runs = both .0 e .0; past = ltb-true (a .deadline) (k .clock + 1) (both .0 e .1) },
+        λ l. both .1 (l .hard-runs, lt-ltb (a .deadline) (k .clock + 1) (l .past)),
+      )
+
+  -- **tick-stops**: the model's tick stops any kernel that was going on exactly where document 01 says so, and a stop changes only clock and stop reason.
+  pub tick-stops : k .stop ≡ Going → Ticked k (Tick.tick k)
+  unfolding Tick.tick
+  tick-stops going = go (eqb (k .clock + 1) lifetime) refl (overrun later) refl
+    where
+      go : (a : Bool) → eqb (k .clock + 1) lifetime ≡ a → (b : Bool) → overrun later ≡ b
+          → Ticked k (cond a (with-stop later Lifetime) (cond b (with-stop later Overrun) (wake-idle (free-zombies later))))
+      go true e b f = record { exactly = exact Lifetime (eqb-true (k .clock + 1) lifetime e); only = λ n. refl }
+      go false e true f = record { exactly = exact Overrun (eqb-false (k .clock + 1) lifetime e, late .0 f); only = λ n. refl }
+      go false e false f =
+          let on = wakes (free-zombies later) ∙ frees later ∙ going in
+          let why = exact Going (eqb-false (k .clock + 1) lifetime e, λ l. true≢false (sym (late .1 l) ∙ f)) in
+          record { exactly = subst (λ (v : Stop). (w : Stop) → (v ≡ w) ↔ Reason k w) (sym on) why; only = λ n. absurd (n on) }
+
+-- ---- the promise of tick
+
+-- A call that changes the state was handed a sound one.
+changed-sound : {c : Call} {s : State} {l : Loan} {g : Given} → Answered c s l g → (g .reply .state ≡ s → ⊥) → Sound s
+changed-sound {c} {s} {l} {g} a changed = go (says c s l (a .sound)) refl (by a (a .sound) (a .decided))
+  where
+    go : (o : Option ℤ) → says c s l (a .sound) ≡ o → By c s l g (a .sound) o → Sound s
+    go none e h = a .decided .0 (allowed (handed (a .sound) s (l .memory .bytes)) c e .sound)
+    go (some x) e h = absurd (changed (h .state))
+
+module _ {s : State} {l : Loan} {g : Given} (a : Answered tick s l g) (going : s .stop ≡ Going) where
+  took : Sound s → TookEffect (effect tick (seen s) (l .memory .bytes)) l g
+  took h = takes-effect a h (rw going refl)
+
+  ticked : Sound s → Ticked (seen s) (seen (g .reply .state))
+  unfolding effect
+  ticked h = subst (Ticked (seen s)) (sym (took h .state .is)) (tick-stops (seen s) going)
+
+  -- **stops-exactly**: a tick on a sound state stops, or goes on, exactly where document 01 says so.
+  pub stops-exactly : Sound s → (w : Stop) → (g .reply .state .stop ≡ w) ↔ Reason (seen s) w
+  stops-exactly h = ticked h .exactly
+
+  -- **stop-only**: on any state that is not stopped, a tick that stops changes only clock and stop reason.
+  pub stop-only : (g .reply .state .stop ≡ Going → ⊥) → StopOnly s (l .memory .bytes) (g .reply) (g .memory)
+  unfolding effect
+  stop-only stops =
+      let h = changed-sound a (λ e. stops (ap (λ (t : State). t .stop) e ∙ going)) in
+      let t = took h in
+      let w = g .reply .state .stop in
+      let sized = h .good .sized in
+      let only : g .reply .state ≡ stopped s (s .clock + 1) w =
+      shows-once (sized .tasks) (sized .queues) (record { kept = t .state .kept; is = ticked h .only stops }) (itself (beside (kept h))) in
+      record {
+        reason = stops-exactly h w .0 refl;
+        state = only;
+        running = a .gives .running ∙ ap (λ (x : State). x .running) only;
+        memory = t .memory;
+        answer = t .answer;
+      }
