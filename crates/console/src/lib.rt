@@ -1,9 +1,10 @@
-// The script program: standard input, in blocks, to standard output. What is written is what `script` promises; this only reads and writes.
+// The script program: standard input, in blocks, to standard output. Only `exchange` and `print` call C; what is made of its answers is in `hear` and `onward`.
 ghost use mathlib.Core.Path.{_≡_};
 ghost use Prim.Native.Nat.{_*_, _≤_};
 ghost use lib.ListN.{length};
 ghost use Rattle.text.specs.Text.{longest-row};
 ghost use Rattle.script.specs.Blocks.{longest};
+ghost use Rattle.console.specs.Exchange.{longest-block, Hears, stands, Exchange, Ran};
 use kernel::State;
 use libc::STDERR_FILENO;
 use libc::STDIN_FILENO;
@@ -11,56 +12,135 @@ use libc::STDOUT_FILENO;
 use script::LONGEST_LINE;
 use text::LONGEST_ROW;
 
-const BLOCK: usize = 1024;
+// The longest block that is read at once: the paper has room for a row for each of its bytes.
+pub const LONGEST_BLOCK: usize = 1024;
 
-struct Standing {
-    state: State,
-    begun: usize,
-    goes_on: bool,
+// Where the script stands between two exchanges: what it goes on with, how many bytes C was handed last, and whether there is a further exchange.
+pub struct Standing {
+    pub state: State,
+    pub begun: usize,
+    pub printed: usize,
+    pub further: bool,
 }
 
-// Reads once, and writes what that printed. A block that is empty is the end of the input.
-fn exchange(s: State, held: &mut [u8], begun: usize, bytes: &mut [u8], out: &mut [u8]) -> Standing
-    requires { ⌜ length (now held) ≡ longest ⌝ ∗ ⌜ longest-row * length (now bytes) ≤ length (now out) ⌝ }
+// What a read came to: how many bytes, where the script stands behind them, and how much they print.
+struct Heard {
+    read: usize,
+    state: State,
+    begun: usize,
+    printed: usize,
+}
+
+// How many bytes C was handed, and whether it took them all.
+struct Printed {
+    bytes: usize,
+    whole: bool,
+}
+
+fn print(text: &[u8]) -> Printed
+    ensures { λ r. ⌜ r .bytes ≡ length (now (text .entry)) ⌝ }
 {
-    let got = libc::read(STDIN_FILENO, bytes);
+    let whole = io::write_all(STDOUT_FILENO, text);
+    Printed {
+        bytes: text.len(),
+        whole,
+    }
+}
+
+// What is made of C's answer to a read.
+fn hear(at: Standing, held: &mut [u8], got: isize, block: &[u8], paper: &mut [u8]) -> Heard
+    requires { ⌜ length (now held) ≡ longest ⌝ ∗ ⌜ longest-row * length (now block) ≤ length (now paper) ⌝ }
+    ensures { λ r. ⌜ Hears at (now (held .entry)) got (now (block .entry)) r (now (held .exit)) (now (paper .exit)) ⌝ }
+{
+    let n = io::count(got, block);
+    let s = at.state;
+    let p = script::block(s, held, at.begun, &block[..n], paper);
+    let t = p.state;
+    Heard {
+        read: n,
+        state: t,
+        begun: p.begun,
+        printed: p.printed,
+    }
+}
+
+// What is made of its answer to a write. A read that brings no byte is the end of the input.
+fn onward(h: Heard, p: Printed) -> Standing
+    ensures { λ r. ⌜ r ≡ stands h p ⌝ }
+{
+    let s = h.state;
+    Standing {
+        state: s,
+        begun: h.begun,
+        printed: p.bytes,
+        further: h.read > 0 && p.whole,
+    }
+}
+
+// Reads once, and writes what that printed.
+fn exchange(at: Standing, held: &mut [u8], block: &mut [u8], paper: &mut [u8]) -> Standing
+    requires { ⌜ length (now held) ≡ longest ⌝ ∗ ⌜ longest-row * length (now block) ≤ length (now paper) ⌝ }
+    ensures { λ r. ⌜ Exchange at (now (held .entry)) r (now (held .exit)) (now (block .exit)) (now (paper .exit)) ⌝ }
+{
+    let got = libc::read(STDIN_FILENO, block);
     if got < 0 {
         io::write_all(STDERR_FILENO, b"dick: standard input cannot be read\n");
     }
-    let n = io::count(got, bytes);
-    let p = script::block(s, held, begun, &bytes[..n], out);
-    let t = p.state;
-    let printed = p.printed;
-    let written = io::write_all(STDOUT_FILENO, &out[..printed]);
-    Standing {
-        state: t,
-        begun: p.begun,
-        goes_on: n > 0 && written,
+    let h = hear(at, held, got, block, paper);
+    let printed = h.printed;
+    let p = print(&paper[..printed]);
+    onward(h, p)
+}
+
+// Where a script ended: how it stands, the line that was begun last, and the row that was printed last.
+pub struct Ending {
+    pub at: Standing,
+    pub held: [u8; LONGEST_LINE],
+    pub row: [u8; LONGEST_ROW],
+    pub printed: usize,
+}
+
+// The whole script: the title, exchange behind exchange, and the row of a last line that has no newline.
+fn serve(block: &mut [u8]) -> Ending
+    requires { ⌜ length (now block) ≤ longest-block ⌝ }
+    ensures { λ r. ⌜ Ran r ⌝ }
+{
+    let mut row = [0u8; LONGEST_ROW];
+    let n = script::title(&mut row);
+    let title = print(&row[..n]);
+    let mut held = [0u8; LONGEST_LINE];
+    let mut paper = io::large_buffer();
+    let fresh = State::fresh();
+    let mut at = Standing {
+        state: fresh,
+        begun: 0,
+        printed: title.bytes,
+        further: title.whole,
+    };
+    // A loop that is proved has to end, and nothing says that an input does. So it counts down from a number that no run uses up.
+    let mut turns = u64::MAX;
+    while at.further && turns > 0 {
+        at = exchange(at, &mut held, block, &mut paper);
+        turns -= 1;
+    }
+    let s = at.state;
+    let n = script::last(s, &held, at.begun, &mut row);
+    let last = print(&row[..n]);
+    Ending {
+        at,
+        held,
+        row,
+        printed: last.bytes,
     }
 }
 
-pub fn run() {
-    let mut row = [0u8; LONGEST_ROW];
-    let n = script::title(&mut row);
-    io::write_all(STDOUT_FILENO, &row[..n]);
-    let mut held = [0u8; LONGEST_LINE];
-    let mut bytes = [0u8; BLOCK];
-    let mut out = io::large_buffer();
-    let mut s = State::fresh();
-    let mut begun = 0;
-    // A loop that is proved has to end, and nothing says that an input does. So it counts down from a number that no run uses up.
-    let mut turns = u64::MAX;
-    while turns > 0 {
-        let p = exchange(s, &mut held, begun, &mut bytes, &mut out);
-        let t = p.state;
-        s = t;
-        begun = p.begun;
-        if p.goes_on {
-            turns -= 1;
-        } else {
-            turns = 0;
-        }
+// The block is what is read at once, no more than its first 1,024 bytes. An empty one has room for no byte, so nothing is read.
+pub fn run(block: &mut [u8]) -> Ending
+    ensures { λ r. ⌜ Ran r ⌝ }
+{
+    if block.len() <= LONGEST_BLOCK {
+        serve(block)
+    } else {
+        serve(&mut block[..LONGEST_BLOCK])
     }
-    let n = script::last(s, &held, begun, &mut row);
-    io::write_all(STDOUT_FILENO, &row[..n]);
 }

@@ -1,4 +1,5 @@
 // The script program: reads a script from standard input, one call a line, and prints what each call answers.
 fn main() {
-    console::run();
+    let mut block = [0u8; console::LONGEST_BLOCK];
+    console::run(&mut block);
 }

@@ -1,4 +1,5 @@
 // The script program on an empty input.
 fn main() {
-    console::run();
+    let mut block = [0u8; console::LONGEST_BLOCK];
+    console::run(&mut block);
 }

@@ -1,4 +1,5 @@
 // The script program on odd lines: lengths around 64 bytes, decimals of 10 and 11 digits, spaces too many, bytes that are no text.
 fn main() {
-    console::run();
+    let mut block = [0u8; console::LONGEST_BLOCK];
+    console::run(&mut block);
 }

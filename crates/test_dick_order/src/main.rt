@@ -1,4 +1,5 @@
 // The script program on equal deadlines and priorities: who is taken first.
 fn main() {
-    console::run();
+    let mut block = [0u8; console::LONGEST_BLOCK];
+    console::run(&mut block);
 }

@@ -1,4 +1,5 @@
 // The script program on every verb: taken, and with each refusal that a script can come to.
 fn main() {
-    console::run();
+    let mut block = [0u8; console::LONGEST_BLOCK];
+    console::run(&mut block);
 }

@@ -1,41 +1,25 @@
--- The program's loop: what goes from turn to turn is how long its buffers are. The measure is the number of turns that are left. Assumes nothing.
+-- The part of the block that is lent on is short enough. Assumes nothing.
 use mathlib.Core.Path.{_≡_}
+use native.Mathlib.Omega.{arith}
 use borrow.Author.Needs.{needs}
-use lib.ListN.{length}
+use lib.ListN.{length, take}
+use Rattle.io.proofs.Counting.{front}
+use Rattle.console.specs.Exchange.{longest-block}
 use Rattle.console.proofs.run.Statement.{statement}
 use Rattle.console.proofs.run.Tie as tie
 
-abbrev Inv-loop : tie.InvT-loop
-Inv-loop row n held₀ bytes₀ out₀ s₀ begun₀ turns₀ held bytes out s begun turns = (length held ≡ 64) × (length bytes ≡ 1024) × (length out ≡ 65536)
-
-abbrev μ-loop : tie.MeasureT-loop
-μ-loop row n held₀ bytes₀ out₀ s₀ begun₀ turns₀ held bytes out s begun turns = turns
+cut : (c : tie.After-serve-arg2) → longest-block ≡ length (take longest-block (c .before .before .before .args .block .now))
+cut c = front longest-block (c .before .before .before .args .block .now) (search needs)
 
 pub run-spec : {M : Type 1} → statement M
 run-spec =
     tie.close
     (tie.spec
-    Inv-loop
-    μ-loop
     (λ c κs. search needs)
     (λ c. search needs)
-    (λ c. search needs)
-    (λ c κs. search needs)
-    (λ c κs. search needs)
-    (λ c κs. search needs)
+    cut
+    (λ c κs. omega (arith, cut c))
     (λ c. search needs)
     (λ c. search needs)
     (λ c. search needs)
-    (λ c. search needs)
-    (λ c κs. search needs)
-    (λ c. search needs)
-    (λ c. search needs)
-    (λ c. search needs)
-    (λ c. search needs)
-    (λ c. search needs)
-    (λ c. search needs)
-    (λ c κs. search needs)
-    (λ c. search needs)
-    (λ c. search needs)
-    (λ c κs. search needs)
     (λ c. search needs))

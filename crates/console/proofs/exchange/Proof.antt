@@ -1,0 +1,35 @@
+-- C's two answers, and what is made of them. Assumes nothing.
+use mathlib.Core.Path.{_≡_}
+use mir.Syntax.{w64}
+use mir.Val.{toZ, ofZ}
+use borrow.Author.Needs.{needs}
+use Rattle.console.proofs.Exchanges.{answered}
+use Rattle.console.proofs.exchange.Statement.{statement}
+use Rattle.console.proofs.exchange.Tie as tie
+
+bits : (c : tie.After-read) → toZ w64 (ofZ w64 (c .read .result)) ≡ c .read .result
+bits c = search needs
+
+returns : tie.Need-returns
+returns c =
+    let printing = c .before in
+    let hearing = printing .before .before .before .before .before .before in
+    let reading = hearing .before .before .before .before .before .before .before in
+    answered (printing .print .result) (rw (bits reading) at (hearing .hear .ensures)) (printing .print .ensures) (c .onward .ensures)
+
+pub exchange-spec : {M : Type 1} → statement M
+exchange-spec =
+    tie.close
+    (tie.spec
+    (λ c κs. search needs)
+    (λ c. search needs)
+    (λ c κs. search needs)
+    (λ c κs. search needs)
+    (λ c. search needs)
+    (λ c. search needs)
+    (λ c κs. search needs)
+    (λ c κs. search needs)
+    (λ c. search needs)
+    (λ c. search needs)
+    (λ c. search needs)
+    returns)

@@ -1,0 +1,70 @@
+-- The script's loop: what goes from turn to turn is the exchanges so far, and how long the buffers are. The measure is the number of turns that are left. Assumes nothing.
+use mathlib.Core.Path.{_≡_, ap, sym, _∙_}
+use mathlib.Core.Logic.{inl, inr, ⊎-elim}
+use native.Mathlib.Omega.{arith}
+use borrow.Author.Needs.{needs}
+use borrow.Author.Tests.{ltb-true, ltb-false}
+use lib.ListN.{length}
+use Rattle.console.proofs.Exchanges.{SoFar, none-yet, once-more}
+use Rattle.console.proofs.serve.Statement.{statement}
+use Rattle.console.proofs.serve.Tie as tie
+
+abbrev Inv-loop : tie.InvT-loop
+Inv-loop block₀ row n held₀ paper₀ at₀ turns₀ block held paper at turns =
+    (length held ≡ 64) × (length block ≡ length block₀) × (length paper ≡ 65536) × SoFar (at₀ .further) at held turns
+
+abbrev μ-loop : tie.MeasureT-loop
+μ-loop block₀ row n held₀ paper₀ at₀ turns₀ block held paper at turns = turns
+
+starts : tie.Need-loop-holds Inv-loop μ-loop
+starts c =
+    let printing = c .before .before in
+    (search needs, search needs, search needs, none-yet (c .fresh .ensures) (printing .print .ensures ∙ ap length (printing .before .before .title .ensures .1)))
+
+goes-on : tie.Need-loop-again Inv-loop μ-loop
+goes-on c =
+    let turn = c .before .before .before .before in
+    let test = turn .before .before .before .before in
+    let f = test .before .before .loop .inv .3 in
+    (search needs, search needs, search needs, once-more f (test .before .loop-test .taken) (ltb-true _ _ (test .if1 .taken)) (turn .exchange .ensures))
+
+ends : tie.Need-returns Inv-loop μ-loop
+ends c =
+    let end = c .before .before .before .before .before .before in
+    let f = end .before .loop .inv .3 in
+    let last = c .before .before .last in
+    record {
+      titled = _;
+      answers = f .answers;
+      text = f .text;
+      exchanges = f .exchanges;
+      over = ⊎-elim (λ w. inr (omega (arith, f .left, ltb-false 0 (end .before .loop .turns) (w .1 .left)))) (λ w. inl (w .left)) (end .loop-test .came);
+      row = rw (last .ensures .0 .1 ∙ sym (c .print2 .ensures)) at (last .ensures .1);
+    }
+
+pub serve-spec : {M : Type 1} → statement M
+serve-spec =
+    tie.close
+    (tie.spec
+    Inv-loop
+    μ-loop
+    (λ c κs. search needs)
+    (λ c. search needs)
+    (λ c. search needs)
+    (λ c κs. search needs)
+    (λ c κs. search needs)
+    (λ c κs. search needs)
+    starts
+    (λ c. search needs)
+    (λ c. search needs)
+    (λ c κs. search needs)
+    (λ c. search needs)
+    (λ c. omega (arith, ltb-true))
+    goes-on
+    (λ c. search needs)
+    (λ c κs. search needs)
+    (λ c. search needs)
+    (λ c. search needs)
+    (λ c κs. search needs)
+    (λ c. search needs)
+    ends)
