@@ -6,7 +6,7 @@ use native.Mathlib.Omega.{arith}
 use Rattle.kernel.specs.declared.State.{State}
 use Rattle.kernel.specs.Sizes.{task-count, channel-count, most-buffers, memory-size}
 use Rattle.kernel.specs.Kernel.{channel}
-use Rattle.kernel.specs.Channels.{own, buffer, place, is-closed}
+use Rattle.kernel.specs.Channels.{own, buffer, buffer-start, is-closed}
 use Rattle.kernel.specs.Seen.{seen}
 use Rattle.kernel.specs.Sound.{Sound}
 use Rattle.kernel.specs.Shows.{Kept}
@@ -29,9 +29,9 @@ module _ {s : State} {c : ℕ} (h : Holds s c) where
   used : ChannelInUse (seen s) c
   used = (h .is-channel, h .is-used)
 
-  pub held-most : buffer (own (seen s) c) < most-buffers
-  held-most = omega (arith, most (h .sound .good) c used, named (h .sound .good) c used (h .is-open))
+  pub counted-most : buffer (own (seen s) c) < most-buffers
+  counted-most = omega (arith, most (h .sound .good) c used, named (h .sound .good) c used (h .is-open))
 
   -- Its message lies inside the memory.
-  pub held-inside : place c (buffer (own (seen s) c)) + channel (seen s) c .size ≤ memory-size
+  pub held-inside : buffer-start c (buffer (own (seen s) c)) + channel (seen s) c .size ≤ memory-size
   held-inside = inside (h .sound .good) c used (buffer (own (seen s) c)) (named (h .sound .good) c used (h .is-open))

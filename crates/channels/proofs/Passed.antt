@@ -8,11 +8,11 @@ use Rattle.kernel.specs.Refusals.{Row, -6, when, no-channel}
 use Rattle.kernel.specs.Seen.{seen}
 use Rattle.kernel.specs.Sound.{Sound}
 use Rattle.kernel.proofs.Allowed.{channel-in-use}
-use Rattle.refusals.specs.declared.Verdict.the-variants.{Passes}
+use Rattle.refusals.specs.declared.Verdict.the-variants.{Accepts}
 use Rattle.refusals.specs.Tested.{Tested, of-lent}
 use Rattle.refusals.proofs.Says.{none-of}
 
-module _ {s : State} (n c : ℕ) {own : List Row} (p : Tested (of-lent s n (when -6 (no-channel (seen s) c) ∷ own)) s Passes) where
+module _ {s : State} (n c : ℕ) {own : List Row} (p : Tested (of-lent s n (when -6 (no-channel (seen s) c) ∷ own)) s Accepts) where
   sound : Sound s
   sound = p .decided .0 (not-false (p .sound) (none-of p .1 .0))
 

@@ -4,12 +4,13 @@ ghost use mathlib.Core.Bool.{_&&_};
 ghost use mathlib.Core.List.{[], _∷_};
 ghost use Prim.Native.Nat.{_<_};
 ghost use Rattle.kernel.specs.declared.Latest.the-variants.{Nothing};
-ghost use Rattle.kernel.specs.Sizes.{channel-count, longest-message, fewest-buffers, most-buffers};
+ghost use Rattle.kernel.specs.Sizes.{channel-count, longest-message, fewest-buffers, most-buffers, within};
 ghost use Rattle.kernel.specs.Kernel.{channel, with-channel};
 ghost use Rattle.kernel.specs.Channels as Channels;
 ghost use Rattle.kernel.specs.Channels.{own};
 ghost use Rattle.kernel.specs.Calls as Calls;
-ghost use Rattle.kernel.specs.Refusals.{when, unless, -6, -14, within, no-channel};
+ghost use Rattle.kernel.specs.Calls.{on-channel};
+ghost use Rattle.kernel.specs.Refusals.{when, unless, -6, -14, no-channel};
 ghost use Rattle.kernel.specs.Seen.{seen};
 ghost use Rattle.kernel.specs.Shows.{Kept, Shows};
 ghost use Rattle.kernel.specs.Promise.{Unlent};
@@ -69,7 +70,7 @@ fn fit(size: usize, buffers: usize) -> bool
 }
 
 fn may_open(s: State, size: usize, buffers: usize) -> Verdict
-    ensures { λ r. ⌜ Refusal (Calls.open-channel size buffers) s r ⌝ }
+    ensures { λ r. ⌜ Refusal (on-channel (Calls.open-channel size buffers)) s r ⌝ }
 {
     let every = refusals::every_call(s);
     let sized = refusals::row(every, State::OUTSIDE_SIZES, !fit(size, buffers));
@@ -82,12 +83,12 @@ fn may_open(s: State, size: usize, buffers: usize) -> Verdict
 
 // Open the lowest unused channel, for messages of this size in so many buffers: its number.
 pub fn open_channel(s: State, size: usize, buffers: usize) -> Reply
-    ensures { λ r. ⌜ Unlent (Calls.open-channel size buffers) s r ⌝ }
+    ensures { λ r. ⌜ Unlent (on-channel (Calls.open-channel size buffers)) s r ⌝ }
 {
     let verdict = may_open(s, size, buffers);
     match verdict {
         Verdict::Refuses(_) => refusals::refuse(s, verdict),
-        Verdict::Passes => {
+        Verdict::Accepts => {
             let channel = Channel {
                 size: size as u16,
                 buffers: buffers as u8,
@@ -132,9 +133,9 @@ pub fn on_channel(s: State, memory: usize, c: usize, kind: Kind) -> Verdict
 // Where the buffer starts that the running task's session on channel c holds.
 pub fn held(s: State, c: usize) -> usize
     requires { ⌜ Holds s c ⌝ }
-    ensures { λ r. ⌜ r ≡ Channels.place c (Channels.buffer (own (seen s) c)) ⌝ }
+    ensures { λ r. ⌜ r ≡ Channels.buffer-start c (Channels.buffer (own (seen s) c)) ⌝ }
 {
     let session = buffers::own(s, c);
     let b = buffers::buffer(session);
-    memory::place(c, b as usize)
+    memory::buffer_start(c, b as usize)
 }

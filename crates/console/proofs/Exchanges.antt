@@ -17,33 +17,33 @@ use Rattle.console.specs.declared.Standing.{Standing}
 use Rattle.console.specs.Exchange.{came, Hears, stands, Exchange, Answers, Exchanges, none, one-more, most-exchanges}
 
 -- What is made of C's two answers is an exchange.
-pub answered : {at : Standing} {held : List ℕ} {got : ℤ} {block : List ℕ} {h : Heard} {held′ paper : List ℕ} {next : Standing} (p : Printed)
-    → Hears at held got block h held′ paper
+pub answered : {at : Standing} {line : List ℕ} {got : ℤ} {block : List ℕ} {h : Heard} {line′ paper : List ℕ} {next : Standing} (p : Printed)
+    → Hears at line got block h line′ paper
     → p .bytes ≡ length (take (h .printed) paper)
     → next ≡ stands h p
-    → Exchange at held next held′ block paper
-answered {at} {held} {got} {block} {h} {held′} {paper} p hears all e =
+    → Exchange at line next line′ block paper
+answered {at} {line} {got} {block} {h} {line′} {paper} p hears all e =
     record {
       got = got;
       whole = p .whole;
-      reads = subst (λ (x : Standing). Reads (came got block) (at .state) held (at .begun) (x .state) held′ (x .begun) (take (x .printed) paper)) (sym e)
-          (subst (λ (n : ℕ). Reads (came got block) (at .state) held (at .begun) (h .state) held′ (h .begun) (take n paper)) (hears .fits .1 ∙ sym all) (hears .reads));
+      reads = subst (λ (x : Standing). Reads (came got block) (at .state) line (at .begun) (x .state) line′ (x .begun) (take (x .printed) paper)) (sym e)
+          (subst (λ (n : ℕ). Reads (came got block) (at .state) line (at .begun) (h .state) line′ (h .begun) (take n paper)) (hears .fits .1 ∙ sym all) (hears .reads));
       further = ap (λ (x : Standing). x .further) e ∙ ap (λ (n : ℕ). ltb 0 n && p .whole) (hears .counted);
     }
 
 -- The exchanges so far, and how many there may still be.
-pub record SoFar (titled : Bool) (at : Standing) (held : List ℕ) (turns : ℕ) : Type 0 where
+pub record SoFar (titled : Bool) (at : Standing) (line : List ℕ) (spare : ℕ) : Type 0 where
   pub answers : List Answers
   pub text : List ℕ
-  pub exchanges : Exchanges titled answers at held text
-  pub left : length answers + turns ≡ most-exchanges
+  pub exchanges : Exchanges titled answers at line text
+  pub left : length answers + spare ≡ most-exchanges
 
-pub none-yet : {titled : Bool} {s : State} {n : ℕ} {held : List ℕ} → s ≡ fresh-state → n ≡ length title
-    → SoFar titled (record { state = s; begun = 0; printed = n; further = titled }) held most-exchanges
+pub none-yet : {titled : Bool} {s : State} {n : ℕ} {line : List ℕ} → s ≡ fresh-state → n ≡ length title
+    → SoFar titled (record { state = s; begun = 0; printed = n; further = titled }) line most-exchanges
 none-yet e l = record { answers = []; text = []; exchanges = none e l; left = omega arith }
 
-pub once-more : {titled : Bool} {at next : Standing} {held held′ block paper : List ℕ} {turns : ℕ} → SoFar titled at held turns → at .further ≡ true → 0 < turns
-    → Exchange at held next held′ block paper
-    → SoFar titled next held′ (turns - 1)
+pub once-more : {titled : Bool} {at next : Standing} {line line′ block paper : List ℕ} {spare : ℕ} → SoFar titled at line spare → at .further ≡ true → 0 < spare
+    → Exchange at line next line′ block paper
+    → SoFar titled next line′ (spare - 1)
 once-more f further some e =
     record { answers = _; text = _; exchanges = one-more (f .exchanges) further e; left = rw (length-append (f .answers)) (omega (arith, f .left)) }

@@ -23,17 +23,17 @@ input-more (b ∷ answers) a =
     ap (λ (x : List ℕ). first ++ x) (input-more answers a) ∙ sym (append-assoc first (input answers) (came (a .got) (a .block)))
 
 -- Exchanges are blocks that are served.
-served : {titled : Bool} {answers : List Answers} {at : Standing} {held text : List ℕ} → Exchanges titled answers at held text
-    → Served (input answers) (at .state) held (at .begun) text
+served : {titled : Bool} {answers : List Answers} {at : Standing} {line text : List ℕ} → Exchanges titled answers at line text
+    → Served (input answers) (at .state) line (at .begun) text
 unfolding input
 served (none e l) = start e
-served (one-more {answers} {next = next} {held′ = held′} {text} {block} {paper} so-far further e) =
-    subst (λ (x : List ℕ). Served x (next .state) held′ (next .begun) (text ++ take (next .printed) paper)) (sym (input-more answers _))
+served (one-more {answers} {next = next} {line′ = line′} {text} {block} {paper} so-far further e) =
+    subst (λ (x : List ℕ). Served x (next .state) line′ (next .begun) (text ++ take (next .printed) paper)) (sym (input-more answers _))
     (more (came (e .got) block) (take (next .printed) paper) (served so-far) (e .reads))
 
--- **all-printed**: what a script hands to C, the title first and the last row last, is the output of all bytes that came. So it is what is printed, if C takes all that it is handed.
-pub all-printed : {r : Ending} (h : Ran r) → title ++ (h .text ++ take (r .printed) (r .row)) ≡ output (input (h .answers))
-all-printed h = in-blocks (served (h .exchanges)) (h .row)
+-- **all-printed**: what a script hands to C, the title first and the last line last, is the output of all bytes that came. So it is what is printed, if C takes all that it is handed.
+pub all-printed : {r : Ending} (h : Ran r) → title ++ (h .text ++ take (r .printed) (r .out)) ≡ output (input (h .answers))
+all-printed h = in-blocks (served (h .exchanges)) (h .last)
 
 -- No exchange follows the last one.
 at-last : {titled : Bool} (before : List Answers) (a : Answers) (t : Bool) → ltb 0 (count (a .got) (a .block)) ≡ t → t && a .whole ≡ false
@@ -41,7 +41,7 @@ at-last : {titled : Bool} (before : List Answers) (a : Answers) (t : Bool) → l
 at-last before a false nothing w = no-byte before a (let l = ltb-false 0 (count (a .got) (a .block)) nothing in omega arith)
 at-last before a true something w = not-taken before a w
 
-why : {titled : Bool} {answers : List Answers} {at : Standing} {held text : List ℕ} → Exchanges titled answers at held text → at .further ≡ false
+why : {titled : Bool} {answers : List Answers} {at : Standing} {line text : List ℕ} → Exchanges titled answers at line text → at .further ≡ false
     → Stopped titled answers
 why (none e l) f = untitled f
 why (one-more {answers} so-far further e) f = at-last answers _ _ refl (sym (e .further) ∙ f)

@@ -32,10 +32,10 @@ came got block = take (count got block) block
 -- ---- what is made of C's answers
 
 -- The read is answered: the bytes that came are read, from where the script stood on, and what they print stands at the start of the paper.
-pub record Hears (at : Standing) (held : List ℕ) (got : ℤ) (block : List ℕ) (h : Heard) (held′ paper : List ℕ) : Type 0 where
+pub record Hears (at : Standing) (line : List ℕ) (got : ℤ) (block : List ℕ) (h : Heard) (line′ paper : List ℕ) : Type 0 where
   pub counted : h .read ≡ count got block
   pub fits : Counts (h .printed) paper
-  pub reads : Reads (came got block) (at .state) held (at .begun) (h .state) held′ (h .begun) (take (h .printed) paper)
+  pub reads : Reads (came got block) (at .state) line (at .begun) (h .state) line′ (h .begun) (take (h .printed) paper)
 
 -- The write is answered too: the script stands where the bytes left it, and a further exchange follows exactly where a byte came and C took all that it was handed.
 abbrev pub stands : Heard → Printed → Standing
@@ -44,10 +44,10 @@ stands h p = record { state = h .state; begun = h .begun; printed = p .bytes; fu
 -- ---- the exchanges
 
 -- One exchange, from where the script stood to where it stands next: what C answered to the read, with these bytes in the block, and whether it took all that it was then handed, which is what the bytes that came print.
-pub record Exchange (at : Standing) (held : List ℕ) (next : Standing) (held′ block paper : List ℕ) : Type 0 where
+pub record Exchange (at : Standing) (line : List ℕ) (next : Standing) (line′ block paper : List ℕ) : Type 0 where
   pub got : ℤ
   pub whole : Bool
-  pub reads : Reads (came got block) (at .state) held (at .begun) (next .state) held′ (next .begun) (take (next .printed) paper)
+  pub reads : Reads (came got block) (at .state) line (at .begun) (next .state) line′ (next .begun) (take (next .printed) paper)
   pub further : next .further ≡ ltb 0 (count got block) && whole
 
 -- What C answered in one exchange.
@@ -57,12 +57,12 @@ pub record Answers : Type 0 where
   pub whole : Bool
 
 -- Exchange behind exchange, the oldest first, from `State::fresh`, no line and the title on. The first follows if C took all of the title, each other if the one before it says so, and from where that one left off. The text is all that C was handed in them.
-pub data Exchanges (titled : Bool) : List Answers → Standing → (held text : List ℕ) → Type 0 where
-  none : {s : State} {n : ℕ} {held : List ℕ} → s ≡ fresh-state → n ≡ length title
-      → Exchanges titled [] (record { state = s; begun = 0; printed = n; further = titled }) held []
-  one-more : {answers : List Answers} {at next : Standing} {held held′ text block paper : List ℕ} → Exchanges titled answers at held text → at .further ≡ true
-      → (e : Exchange at held next held′ block paper)
-      → Exchanges titled (answers ++ (record { got = e .got; block = block; whole = e .whole } ∷ [])) next held′ (text ++ take (next .printed) paper)
+pub data Exchanges (titled : Bool) : List Answers → Standing → (line text : List ℕ) → Type 0 where
+  none : {s : State} {n : ℕ} {line : List ℕ} → s ≡ fresh-state → n ≡ length title
+      → Exchanges titled [] (record { state = s; begun = 0; printed = n; further = titled }) line []
+  one-more : {answers : List Answers} {at next : Standing} {line line′ text block paper : List ℕ} → Exchanges titled answers at line text → at .further ≡ true
+      → (e : Exchange at line next line′ block paper)
+      → Exchanges titled (answers ++ (record { got = e .got; block = block; whole = e .whole } ∷ [])) next line′ (text ++ take (next .printed) paper)
 
 -- No script has more exchanges.
 abbrev pub most-exchanges : ℕ
@@ -73,9 +73,9 @@ pub record Ran (r : Ending) : Type 0 where
   pub titled : Bool
   pub answers : List Answers
   pub text : List ℕ
-  pub exchanges : Exchanges titled answers (r .at) (r .held) text
+  pub exchanges : Exchanges titled answers (r .at) (r .line) text
   pub over : (r .at .further ≡ false) ⊎ (length answers ≡ most-exchanges)
-  pub row : Ends (r .at .state) (r .held) (r .at .begun) (take (r .printed) (r .row))
+  pub last : Ends (r .at .state) (r .line) (r .at .begun) (take (r .printed) (r .out))
 
 -- ---- what holds of every script
 

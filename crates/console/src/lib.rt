@@ -2,7 +2,7 @@
 ghost use mathlib.Core.Path.{_≡_};
 ghost use Prim.Native.Nat.{_*_, _≤_};
 ghost use lib.ListN.{length};
-ghost use Rattle.text.specs.Text.{longest-row};
+ghost use Rattle.text.specs.Text.{longest-printed};
 ghost use Rattle.script.specs.Blocks.{longest};
 ghost use Rattle.console.specs.Exchange.{longest-block, Hears, stands, Exchange, Ran};
 use kernel::State;
@@ -10,9 +10,9 @@ use libc::STDERR_FILENO;
 use libc::STDIN_FILENO;
 use libc::STDOUT_FILENO;
 use script::LONGEST_LINE;
-use text::LONGEST_ROW;
+use text::LONGEST_PRINTED;
 
-// The longest block that is read at once: the paper has room for a row for each of its bytes.
+// The longest block that is read at once: the paper has room for a printed line for each of its bytes.
 pub const LONGEST_BLOCK: usize = 1024;
 
 // Where the script stands between two exchanges: what it goes on with, how many bytes C was handed last, and whether there is a further exchange.
@@ -48,13 +48,13 @@ fn print(text: &[u8]) -> Printed
 }
 
 // What is made of C's answer to a read.
-fn hear(at: Standing, held: &mut [u8], got: isize, block: &[u8], paper: &mut [u8]) -> Heard
-    requires { ⌜ length (now held) ≡ longest ⌝ ∗ ⌜ longest-row * length (now block) ≤ length (now paper) ⌝ }
-    ensures { λ r. ⌜ Hears at (now (held .entry)) got (now (block .entry)) r (now (held .exit)) (now (paper .exit)) ⌝ }
+fn hear(at: Standing, line: &mut [u8], got: isize, block: &[u8], paper: &mut [u8]) -> Heard
+    requires { ⌜ length (now line) ≡ longest ⌝ ∗ ⌜ longest-printed * length (now block) ≤ length (now paper) ⌝ }
+    ensures { λ r. ⌜ Hears at (now (line .entry)) got (now (block .entry)) r (now (line .exit)) (now (paper .exit)) ⌝ }
 {
     let n = io::count(got, block);
     let s = at.state;
-    let p = script::block(s, held, at.begun, &block[..n], paper);
+    let p = script::block(s, line, at.begun, &block[..n], paper);
     let t = p.state;
     Heard {
         read: n,
@@ -78,37 +78,37 @@ fn onward(h: Heard, p: Printed) -> Standing
 }
 
 // Reads once, and writes what that printed.
-fn exchange(at: Standing, held: &mut [u8], block: &mut [u8], paper: &mut [u8]) -> Standing
-    requires { ⌜ length (now held) ≡ longest ⌝ ∗ ⌜ longest-row * length (now block) ≤ length (now paper) ⌝ }
-    ensures { λ r. ⌜ Exchange at (now (held .entry)) r (now (held .exit)) (now (block .exit)) (now (paper .exit)) ⌝ }
+fn exchange(at: Standing, line: &mut [u8], block: &mut [u8], paper: &mut [u8]) -> Standing
+    requires { ⌜ length (now line) ≡ longest ⌝ ∗ ⌜ longest-printed * length (now block) ≤ length (now paper) ⌝ }
+    ensures { λ r. ⌜ Exchange at (now (line .entry)) r (now (line .exit)) (now (block .exit)) (now (paper .exit)) ⌝ }
 {
     let got = libc::read(STDIN_FILENO, block);
     if got < 0 {
         io::write_all(STDERR_FILENO, b"dick: standard input cannot be read\n");
     }
-    let h = hear(at, held, got, block, paper);
+    let h = hear(at, line, got, block, paper);
     let printed = h.printed;
     let p = print(&paper[..printed]);
     onward(h, p)
 }
 
-// Where a script ended: how it stands, the line that was begun last, and the row that was printed last.
+// Where a script ended: how it stands, the line that was begun last, and what was printed last.
 pub struct Ending {
     pub at: Standing,
-    pub held: [u8; LONGEST_LINE],
-    pub row: [u8; LONGEST_ROW],
+    pub line: [u8; LONGEST_LINE],
+    pub out: [u8; LONGEST_PRINTED],
     pub printed: usize,
 }
 
-// The whole script: the title, exchange behind exchange, and the row of a last line that has no newline.
+// The whole script: the title, exchange behind exchange, and what a last line prints that has no newline.
 fn serve(block: &mut [u8]) -> Ending
     requires { ⌜ length (now block) ≤ longest-block ⌝ }
     ensures { λ r. ⌜ Ran r ⌝ }
 {
-    let mut row = [0u8; LONGEST_ROW];
-    let n = script::title(&mut row);
-    let title = print(&row[..n]);
-    let mut held = [0u8; LONGEST_LINE];
+    let mut out = [0u8; LONGEST_PRINTED];
+    let n = script::title(&mut out);
+    let title = print(&out[..n]);
+    let mut line = [0u8; LONGEST_LINE];
     let mut paper = io::large_buffer();
     let fresh = State::fresh();
     let mut at = Standing {
@@ -118,18 +118,18 @@ fn serve(block: &mut [u8]) -> Ending
         further: title.whole,
     };
     // A loop that is proved has to end, and nothing says that an input does. So it counts down from a number that no run uses up.
-    let mut turns = u64::MAX;
-    while at.further && turns > 0 {
-        at = exchange(at, &mut held, block, &mut paper);
-        turns -= 1;
+    let mut spare = u64::MAX;
+    while at.further && spare > 0 {
+        at = exchange(at, &mut line, block, &mut paper);
+        spare -= 1;
     }
     let s = at.state;
-    let n = script::last(s, &held, at.begun, &mut row);
-    let last = print(&row[..n]);
+    let n = script::last(s, &line, at.begun, &mut out);
+    let last = print(&out[..n]);
     Ending {
         at,
-        held,
-        row,
+        line,
+        out,
         printed: last.bytes,
     }
 }

@@ -8,7 +8,7 @@ use Rattle.kernel.specs.declared.State.{State}
 use Rattle.kernel.specs.Sizes.{task-count}
 use Rattle.kernel.specs.Kernel.{Kernel}
 use Rattle.kernel.specs.Tasks.{lowest-free}
-use Rattle.kernel.specs.Calls.{create-hard, create-nrt}
+use Rattle.kernel.specs.Calls.{create-hard, create-nrt, verb}
 use Rattle.kernel.proofs.Lowest.{found}
 use Rattle.kernel.proofs.Shows.{kept}
 use Rattle.refusals.specs.Tested.{Legal}
@@ -19,12 +19,12 @@ free-one : (k : Kernel) → (lowest-free k ≡ task-count → ⊥) → lowest-fr
 unfolding lowest-free
 free-one k some = found task-count _ some .0
 
-pub hard-creatable : {s : State} {p c : ℕ} → Legal (create-hard p c) s → Creatable s (Hard p c)
+pub hard-creatable : {s : State} {p c : ℕ} → Legal (verb (create-hard p c)) s → Creatable s (Hard p c)
 hard-creatable l =
     let a = allows l .allowed in
     record { kept = kept (l .sound); free = free-one _ (a .1); sized = λ e. a .0; share = a .2 }
 
-pub nrt-creatable : {s : State} {p : ℕ} → Legal (create-nrt p) s → Creatable s (Nrt p)
+pub nrt-creatable : {s : State} {p : ℕ} → Legal (verb (create-nrt p)) s → Creatable s (Nrt p)
 nrt-creatable l =
     let a = allows l .allowed in
-    record { kept = kept (l .sound); free = free-one _ (a .1); sized = λ e. absurd (false≢true e); share = omega (arith, l .sound .good .shared .share-fits) }
+    record { kept = kept (l .sound); free = free-one _ (a .1); sized = λ e. absurd (false≢true e); share = omega (arith, l .sound .good .shared .total-fits) }

@@ -1,3 +1,2 @@
 -- Facts behind create.
-pub mod Sizes
 pub mod Creatable

@@ -13,4 +13,4 @@ pub record Creatable (s : State) (class : Class) : Type 0 where
   pub kept : Kept s
   pub free : lowest-free (seen s) < task-count
   pub sized : HardFits class
-  pub share : s .share + share-of class ≤ whole
+  pub share : s .total + share-of class ≤ whole

@@ -1,14 +1,13 @@
 // Create, HARD and NRT.
 ghost use mathlib.Core.Path.{_≡_};
-ghost use mathlib.Core.Bool.{_&&_};
 ghost use Prim.Native.Nat.{_+_};
 ghost use lib.Dec.{ltb};
 ghost use Rattle.kernel.specs.declared.Class.the-variants.{Hard};
-ghost use Rattle.kernel.specs.Sizes.{longest-period, whole};
+ghost use Rattle.kernel.specs.Sizes.{whole};
 ghost use Rattle.kernel.specs.Kernel.{share};
 ghost use Rattle.kernel.specs.Tasks as Tasks;
 ghost use Rattle.kernel.specs.Calls as Calls;
-ghost use Rattle.kernel.specs.Refusals.{within};
+ghost use Rattle.kernel.specs.Calls.{verb};
 ghost use Rattle.kernel.specs.Seen.{seen};
 ghost use Rattle.kernel.specs.Good.{Fits};
 ghost use Rattle.kernel.specs.Shows.{Shows};
@@ -52,58 +51,42 @@ fn created(s: State, class: Class) -> State
 {
     let i = lowest_free(s);
     let deadline = first_deadline(class, s.clock);
-    let share = s.share + sound_clauses::share_of(class) as u32;
+    let share = s.total + sound_clauses::share_of(class) as u32;
     let mut r = queues::move_task(s, i, class, Status::Sleep, deadline);
-    r.share = share;
+    r.total = share;
     r
 }
 
 // ---- HARD
 
-// Whether period and cost are inside their sizes.
-fn fit(period: u64, cost: u64) -> bool
-    ensures { λ r. ⌜ r ≡ within 1 period longest-period && within 1 cost period ⌝ }
-{
-    if period < 1 {
-        return false;
-    }
-    if period > State::LONGEST_PERIOD as u64 {
-        return false;
-    }
-    if cost < 1 {
-        return false;
-    }
-    cost <= period
-}
-
 // Whether the share total would pass the whole, of sizes that fit.
 fn too_much(s: State, period: u64, cost: u64) -> bool
-    ensures { λ r. ⌜ (Fits (Hard period cost) → r ≡ ltb whole (s .share + share period cost)) ⌝ }
+    ensures { λ r. ⌜ (Fits (Hard period cost) → r ≡ ltb whole (s .total + share period cost)) ⌝ }
 {
-    if !fit(period, cost) {
+    if !kernel::fitting(period, cost) {
         return false;
     }
     let share = sound_clauses::hard_share(period as u32, cost as u32);
-    s.share as u64 + share > State::WHOLE as u64
+    s.total as u64 + share > State::WHOLE as u64
 }
 
 fn may_create_hard(s: State, period: u64, cost: u64) -> Verdict
-    ensures { λ r. ⌜ Refusal (Calls.create-hard period cost) s r ⌝ }
+    ensures { λ r. ⌜ Refusal (verb (Calls.create-hard period cost)) s r ⌝ }
 {
     let every = refusals::every_call(s);
-    let sized = refusals::row(every, State::OUTSIDE_SIZES, !fit(period, cost));
+    let sized = refusals::row(every, State::OUTSIDE_SIZES, !kernel::fitting(period, cost));
     let free = refusals::row(sized, State::NO_TASK, lowest_free(s) == State::TASKS);
     refusals::row(free, State::NO_GUARANTEE, too_much(s, period, cost))
 }
 
 // Create a HARD task of this period and cost: its number.
 pub fn create_hard(s: State, period: u64, cost: u64) -> Reply
-    ensures { λ r. ⌜ Unlent (Calls.create-hard period cost) s r ⌝ }
+    ensures { λ r. ⌜ Unlent (verb (Calls.create-hard period cost)) s r ⌝ }
 {
     let verdict = may_create_hard(s, period, cost);
     match verdict {
         Verdict::Refuses(_) => refusals::refuse(s, verdict),
-        Verdict::Passes => {
+        Verdict::Accepts => {
             let class = Class::Hard {
                 period: period as u32,
                 cost: cost as u32,
@@ -118,7 +101,7 @@ pub fn create_hard(s: State, period: u64, cost: u64) -> Reply
 // ---- NRT
 
 fn may_create_nrt(s: State, priority: u64) -> Verdict
-    ensures { λ r. ⌜ Refusal (Calls.create-nrt priority) s r ⌝ }
+    ensures { λ r. ⌜ Refusal (verb (Calls.create-nrt priority)) s r ⌝ }
 {
     let every = refusals::every_call(s);
     let sized = refusals::row(
@@ -131,12 +114,12 @@ fn may_create_nrt(s: State, priority: u64) -> Verdict
 
 // Create an NRT task of this priority: its number.
 pub fn create_nrt(s: State, priority: u64) -> Reply
-    ensures { λ r. ⌜ Unlent (Calls.create-nrt priority) s r ⌝ }
+    ensures { λ r. ⌜ Unlent (verb (Calls.create-nrt priority)) s r ⌝ }
 {
     let verdict = may_create_nrt(s, priority);
     match verdict {
         Verdict::Refuses(_) => refusals::refuse(s, verdict),
-        Verdict::Passes => {
+        Verdict::Accepts => {
             let class = Class::Nrt {
                 priority: priority as u8,
             };

@@ -6,6 +6,7 @@ ghost use Rattle.kernel.specs.Kernel.{task};
 ghost use Rattle.kernel.specs.Moves.{move};
 ghost use Rattle.kernel.specs.Tasks as Tasks;
 ghost use Rattle.kernel.specs.Calls as Calls;
+ghost use Rattle.kernel.specs.Calls.{verb};
 ghost use Rattle.kernel.specs.Seen.{seen};
 ghost use Rattle.kernel.specs.Shows.{Kept, Shows};
 ghost use Rattle.kernel.specs.Promise.{Unlent};
@@ -69,7 +70,7 @@ fn finish(s: State, n: usize) -> State
 // ---- end
 
 fn gone(s: State) -> State
-    requires { ⌜ Legal Calls.end s ⌝ }
+    requires { ⌜ Legal (verb Calls.end) s ⌝ }
     ensures { λ r. ⌜ Shows r (Tasks.end (seen s)) ⌝ }
 {
     let finished = finish(s, s.running.0);
@@ -78,12 +79,12 @@ fn gone(s: State) -> State
 
 // The running task ends, and the first ready task runs.
 pub fn end(s: State) -> Reply
-    ensures { λ r. ⌜ Unlent Calls.end s r ⌝ }
+    ensures { λ r. ⌜ Unlent (verb Calls.end) s r ⌝ }
 {
     let verdict = refusals::not_by_main(s);
     match verdict {
         Verdict::Refuses(_) => refusals::refuse(s, verdict),
-        Verdict::Passes => {
+        Verdict::Accepts => {
             let next = gone(s);
             refusals::done(next, 0)
         }
@@ -93,7 +94,7 @@ pub fn end(s: State) -> Reply
 // ---- kill
 
 fn may_kill(s: State, n: usize) -> Verdict
-    ensures { λ r. ⌜ Refusal (Calls.kill n) s r ⌝ }
+    ensures { λ r. ⌜ Refusal (verb (Calls.kill n)) s r ⌝ }
 {
     let every = refusals::every_call(s);
     let other = refusals::row(every, State::NOT_ALLOWED, n == 0);
@@ -104,7 +105,7 @@ fn may_kill(s: State, n: usize) -> Verdict
 }
 
 fn killed(s: State, n: usize) -> State
-    requires { ⌜ Legal (Calls.kill n) s ⌝ }
+    requires { ⌜ Legal (verb (Calls.kill n)) s ⌝ }
     ensures { λ r. ⌜ Shows r (Tasks.kill n (seen s)) ⌝ }
 {
     let running = s.running.0;
@@ -117,13 +118,13 @@ fn killed(s: State, n: usize) -> State
 
 // Task n ends. Kill of oneself is end.
 pub fn kill(s: State, task: TaskNo) -> Reply
-    ensures { λ r. ⌜ Unlent (Calls.kill (task .0)) s r ⌝ }
+    ensures { λ r. ⌜ Unlent (verb (Calls.kill (task .0))) s r ⌝ }
 {
     let n = task.0;
     let verdict = may_kill(s, n);
     match verdict {
         Verdict::Refuses(_) => refusals::refuse(s, verdict),
-        Verdict::Passes => {
+        Verdict::Accepts => {
             let next = killed(s, n);
             refusals::done(next, 0)
         }

@@ -16,7 +16,7 @@ use Rattle.kernel.specs.declared.Slot.{Slot}
 use Rattle.kernel.specs.Sizes.{task-count, semaphore-count, channel-count, lifetime}
 use Rattle.kernel.specs.Status.{queue-of, queue-count}
 use Rattle.kernel.specs.Kernel.{Bare, Kernel, blank, task, queue, semaphore, channel, session, unused-semaphore, unused-channel, slot, slot-number}
-use Rattle.kernel.specs.Good.{Good, GoodTask, GoodSemaphore, GoodChannel, Opens, place, deadline-of}
+use Rattle.kernel.specs.Good.{Good, GoodTask, GoodSemaphore, GoodChannel, Opens, standing, deadline-of}
 use Rattle.kernel.specs.Seen.{past, record-at, head-of, queue-from, seen}
 use Rattle.kernel.specs.Sound.{Filed, Sound}
 use Rattle.kernel.specs.Fresh.{main, alone, fresh, fresh-at, fresh-state}
@@ -86,7 +86,7 @@ module _ (n : ℕ) where
   task-good zero = main-good
   task-good (suc x) = rw others (blank-good x)
 
-  queue-good : (q : ℕ) → q < queue-count → Queue task-count (place (fresh-at n)) (deadline-of (fresh-at n)) q (queue fresh q)
+  queue-good : (q : ℕ) → q < queue-count → Queue task-count (standing (fresh-at n)) (deadline-of (fresh-at n)) q (queue fresh q)
   queue-good q h =
       record {
         only = rw no-one tt;
@@ -135,7 +135,7 @@ module _ (n : ℕ) where
         tasks = λ x lx. task-good x;
         runs = record { running = omega arith; earliest = tt; in-time = λ g e. absurd (false≢true e) };
         queues = queue-good;
-        shared = record { share = refl; share-fits = omega arith };
+        shared = record { total-is = refl; total-fits = omega arith };
         semaphores = λ s ls. semaphore-good s;
         channels = λ c lc. channel-good c;
         clocked = record { clock = omega arith; expired = (λ e. absurd (omega arith), λ e. absurd (omega arith)) };

@@ -1,6 +1,8 @@
 -- Facts about the definitions, which need no code.
 pub mod Refusals
+pub mod Said
 pub mod Rows
+pub mod Sizes
 pub mod Allowed
 pub mod Decided
 pub mod Seen

@@ -15,7 +15,7 @@ use Rattle.kernel.specs.Sizes.{task-count}
 use Rattle.kernel.specs.Status.{queue-of, queue-count}
 use Rattle.kernel.specs.Kernel.{Bare, Kernel, task, queue, blank, with-tasks}
 use Rattle.kernel.specs.Moves.{out, move}
-use Rattle.kernel.specs.Good.{place, deadline-of}
+use Rattle.kernel.specs.Good.{standing, deadline-of, Queued}
 
 -- A move changes the records and the queues, and nothing else.
 pub move-is : (k : Kernel) (i : ℕ) (a : Bare) → move k i a ≡ with-tasks k (set (k .tasks) i a) (move k i a .queues)
@@ -24,28 +24,28 @@ move-is k i a = refl
 
 pub move-sized : (k : Kernel) (i : ℕ) (a : Bare) → length (move k i a .queues) ≡ length (k .queues)
 unfolding move
-move-sized k i a = length-set (out k i) (queue-of (a .status)) _ ∙ length-set (k .queues) (place k i) _
+move-sized k i a = length-set (out k i) (queue-of (a .status)) _ ∙ length-set (k .queues) (standing k i) _
 
 -- A kernel in which task i can be moved: it has the right sizes, and its queues are in order.
 pub record Movable (k : Kernel) (i : ℕ) : Type 0 where
   pub tasks : length (k .tasks) ≡ task-count
   pub lists : length (k .queues) ≡ queue-count
-  pub queues : (q : ℕ) → q < queue-count → Queue task-count (place k) (deadline-of k) q (queue k q)
+  pub queues : Queued k
   pub is-task : i < task-count
 
 module _ {k : Kernel} {i : ℕ} (m : Movable k i) where
   -- Once i is out, each queue is without it, the one in which it stood and the others.
   out-queue : (q : ℕ) → q < queue-count → getD (out k i) q [] ≡ remove i (queue k q)
-  out-queue q l = go (ℕ-discrete q (place k i))
+  out-queue q l = go (ℕ-discrete q (standing k i))
     where
-      go : Dec (q ≡ place k i) → getD (out k i) q [] ≡ remove i (queue k q)
-      go (yes e) = rw e (getD-set-same (k .queues) (place k i) _ [] (let h = m .lists in omega arith))
-      go (no ne) = getD-set-other (k .queues) (place k i) q _ [] ne ∙ sym (remove-absent i (queue k q) (absent i (m .queues q l) (λ e. ne (sym e))))
+      go : Dec (q ≡ standing k i) → getD (out k i) q [] ≡ remove i (queue k q)
+      go (yes e) = rw e (getD-set-same (k .queues) (standing k i) _ [] (let h = m .lists in omega arith))
+      go (no ne) = getD-set-other (k .queues) (standing k i) q _ [] ne ∙ sym (remove-absent i (queue k q) (absent i (m .queues q l) (λ e. ne (sym e))))
 
   -- These queues are in order, for i stands in none.
-  pub out-queues : (q : ℕ) → q < queue-count → Queue task-count (loosened queue-count i (place k)) (deadline-of k) q (remove i (queue k q))
+  pub out-queues : (q : ℕ) → q < queue-count → Queue task-count (loosened queue-count i (standing k)) (deadline-of k) q (remove i (queue k q))
   out-queues q l =
-      queue-left (m .queues q l) (loose-there queue-count i (place k)) (λ x ne. refl) (m .is-task) (λ e. let h = loose-here queue-count i (place k) in omega arith)
+      queue-left (m .queues q l) (loose-there queue-count i (standing k)) (λ x ne. refl) (m .is-task) (λ e. let h = loose-here queue-count i (standing k) in omega arith)
 
   module _ (a : Bare) where
     pub moved-task : task (move k i a) i ≡ a
@@ -56,10 +56,10 @@ module _ {k : Kernel} {i : ℕ} (m : Movable k i) where
     unfolding move
     kept-task x ne = getD-set-other (k .tasks) i x a blank ne
 
-    pub moved-place : place (move k i a) i ≡ queue-of (a .status)
+    pub moved-place : standing (move k i a) i ≡ queue-of (a .status)
     moved-place = ap (λ (b : Bare). queue-of (b .status)) moved-task
 
-    pub kept-place : (x : ℕ) → (x ≡ i → ⊥) → place (move k i a) x ≡ place k x
+    pub kept-place : (x : ℕ) → (x ≡ i → ⊥) → standing (move k i a) x ≡ standing k x
     kept-place x ne = ap (λ (b : Bare). queue-of (b .status)) (kept-task x ne)
 
     kept-deadline : (x : ℕ) → (x ≡ i → ⊥) → deadline-of (move k i a) x ≡ deadline-of k x
@@ -70,7 +70,7 @@ module _ {k : Kernel} {i : ℕ} (m : Movable k i) where
     unfolding move
     moved-queue l =
         let h = m .lists in
-        getD-set-same (out k i) (queue-of (a .status)) _ [] (omega (arith, length-set (k .queues) (place k i) (remove i (queue k (place k i)))))
+        getD-set-same (out k i) (queue-of (a .status)) _ [] (omega (arith, length-set (k .queues) (standing k i) (remove i (queue k (standing k i)))))
         ∙ ap (insert (λ x. leb (deadline-of k x) (a .deadline)) i) (out-queue (queue-of (a .status)) l)
 
     pub kept-queue : (q : ℕ) → q < queue-count → (q ≡ queue-of (a .status) → ⊥) → queue (move k i a) q ≡ remove i (queue k q)
@@ -78,15 +78,15 @@ module _ {k : Kernel} {i : ℕ} (m : Movable k i) where
     kept-queue q l ne = getD-set-other (out k i) (queue-of (a .status)) q _ [] ne ∙ out-queue q l
 
     -- **moved-queues**: a move keeps every queue in order: exactly its tasks, once each, by rising deadline.
-    pub moved-queues : (q : ℕ) → q < queue-count → Queue task-count (place (move k i a)) (deadline-of (move k i a)) q (queue (move k i a) q)
+    pub moved-queues : Queued (move k i a)
     moved-queues q l = go (ℕ-discrete q (queue-of (a .status)))
       where
         passed : (x : ℕ) → leb (deadline-of k x) (a .deadline) ≡ leb (deadline-of k x) (deadline-of (move k i a) i)
         passed x = ap (λ (b : Bare). leb (deadline-of k x) (b .deadline)) (sym moved-task)
 
-        go : Dec (q ≡ queue-of (a .status)) → Queue task-count (place (move k i a)) (deadline-of (move k i a)) q (queue (move k i a) q)
+        go : Dec (q ≡ queue-of (a .status)) → Queue task-count (standing (move k i a)) (deadline-of (move k i a)) q (queue (move k i a) q)
         go (yes e) =
             rw (e, moved-queue (rw (sym e) l))
-            (queue-joined (out-queues (queue-of (a .status)) (rw (sym e) l)) (λ x ne. kept-place x ne ∙ sym (loose-there queue-count i (place k) x ne)) kept-deadline _ passed (m .is-task)
-            (λ z. let h = loose-here queue-count i (place k) in omega arith) moved-place)
+            (queue-joined (out-queues (queue-of (a .status)) (rw (sym e) l)) (λ x ne. kept-place x ne ∙ sym (loose-there queue-count i (standing k) x ne)) kept-deadline _ passed (m .is-task)
+            (λ z. let h = loose-here queue-count i (standing k) in omega arith) moved-place)
         go (no ne) = rw (kept-queue q l ne) (queue-left (m .queues q l) kept-place kept-deadline (m .is-task) (λ z. ne (sym z ∙ moved-place)))

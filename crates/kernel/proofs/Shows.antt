@@ -30,13 +30,13 @@ pub running : {s : State} {k : Kernel} → Shows s k → s .running .0 ≡ k .ru
 running h = ap (λ (j : Kernel). j .running) (h .is)
 
 -- The links say nothing of what stands beside the table.
-pub beside : {s : State} {clock share : ℕ} {stop : Stop} {running : TaskNo} {semaphores : List Semaphore} {channels : List Channel} {sessions : List Slot} → Kept s
+pub beside : {s : State} {clock total : ℕ} {stop : Stop} {running : TaskNo} {semaphores : List Semaphore} {channels : List Channel} {sessions : List Slot} → Kept s
     → Kept
     (record {
       clock = clock;
       stop = stop;
       running = running;
-      share = share;
+      total = total;
       tasks = s .tasks;
       heads = s .heads;
       semaphores = semaphores;

@@ -23,7 +23,7 @@ fresh =
       clock = 0;
       stop = Going;
       running = 0;
-      share = 0;
+      total = 0;
       tasks = main ∷ replicate (task-count - 1) blank;
       queues = replicate queue-count [];
       semaphores = replicate semaphore-count unused-semaphore;
@@ -46,7 +46,7 @@ fresh-state =
       clock = 0;
       stop = Going;
       running = record { 0 = 0 };
-      share = 0;
+      total = 0;
       tasks = alone main ∷ replicate (task-count - 1) (alone blank);
       heads = replicate queue-count Chain.end;
       semaphores = replicate semaphore-count unused-semaphore;

@@ -10,6 +10,7 @@ use Rattle.kernel.specs.declared.Answer.{Answer}
 use Rattle.kernel.specs.declared.Answer.the-variants.{Done, Refused}
 use Rattle.kernel.specs.declared.State.{State}
 use Rattle.kernel.specs.declared.Reply.{Reply}
+use Rattle.kernel.specs.Answer.{said}
 use Rattle.kernel.specs.Kernel.{Kernel}
 use Rattle.kernel.specs.Calls.{Call, Shown, nothing, part, standby}
 use Rattle.kernel.specs.Refusals.{Handed}
@@ -23,11 +24,11 @@ use Rattle.kernel.specs.Slices.{Slice, part-of}
 abbrev pub handed : Bool → State → List ℕ → Handed
 handed b s m = record { sound = b; kernel = seen s; memory = m }
 
--- The next state, where the answer is this and the kernel is then k. Refused, it is the state itself, links and all, sound or not.
+-- The next state, where the kernel is then k. Refused, it is the state itself, links and all, sound or not.
 -- Else it is a state that shows k, and there is only one.
-abbrev pub Left : Answer → Kernel → State → State → Type 0
-Left (Refused n) k s t = t ≡ s
-Left (Done n) k s t = Shows t k
+abbrev pub Left : Bool → Kernel → State → State → Type 0
+Left true k s t = t ≡ s
+Left false k s t = Shows t k
 
 -- What a call is lent: the message memory and, by the screen call, a stand-by text.
 pub record Loan : Type 0 where
@@ -48,8 +49,8 @@ handed-back standby l = some (l .standby)
 
 -- What a call gives back where o is its outcome.
 pub record Gives (o : Outcome) (s : State) (l : Loan) (g : Given) : Type 0 where
-  pub answer : g .reply .answer ≡ o .answer
-  pub state : Left (o .answer) (o .kernel) s (g .reply .state)
+  pub answer : said (g .reply .answer) ≡ o .answer
+  pub state : Left (o .answer .refusal) (o .kernel) s (g .reply .state)
   pub running : g .reply .running ≡ g .reply .state .running
   pub memory : g .memory ≡ o .memory
   pub shown : g .shown ≡ handed-back (o .shown) l

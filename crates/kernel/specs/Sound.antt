@@ -7,15 +7,15 @@ use Rattle.kernel.specs.Sizes.{task-count}
 use Rattle.kernel.specs.Status.{queue-count}
 use Rattle.kernel.specs.Kernel.{queue}
 use Rattle.kernel.specs.Seen.{next-of, previous-of, head-of, seen}
-use Rattle.kernel.specs.Good.{Good, place}
+use Rattle.kernel.specs.Good.{Good, standing}
 
--- The links and heads of a state hold these queues, of tasks that have these places.
-abbrev pub Holds : State → (ℕ → ℕ) → (ℕ → List ℕ) → Type 0
-Holds s place queue = Filing.Filed task-count queue-count place (next-of (s .tasks)) (previous-of (s .tasks)) (head-of (s .heads)) queue
+-- The links and heads of a state hold these queues, of tasks that stand in these.
+abbrev pub LinksHold : State → (ℕ → ℕ) → (ℕ → List ℕ) → Type 0
+LinksHold s standing queue = Filing.Filed task-count queue-count standing (next-of (s .tasks)) (previous-of (s .tasks)) (head-of (s .heads)) queue
 
--- They hold the queues that are seen. Links are mutual; FREE, SLEEP and EXE, which stand in no queue, have both links -1.
+-- They hold the queues that are seen. Links are mutual, and (records) -1 at the ends; FREE, SLEEP and EXE, which stand in no queue, have both links -1.
 abbrev pub Filed : State → Type 0
-Filed s = Holds s (place (seen s)) (queue (seen s))
+Filed s = LinksHold s (standing (seen s)) (queue (seen s))
 
 pub record Sound (s : State) : Type 0 where
   pub filed : Filed s

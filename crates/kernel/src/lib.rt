@@ -1,6 +1,7 @@
 // The state of one controller, with its sizes, its numbers and its fresh kernel, and what a call gives back.
 ghost use mathlib.Core.Path.{_≡_};
 ghost use Rattle.kernel.specs.Status.{status-number, stop-number, waiting, queue-of};
+ghost use Rattle.kernel.specs.Sizes.{fitting};
 ghost use Rattle.kernel.specs.Kernel.{period-of};
 ghost use Rattle.kernel.specs.Fresh.{fresh-state};
 
@@ -76,7 +77,7 @@ pub struct State {
     pub clock: u32,
     pub stop: Stop,
     pub running: TaskNo,
-    pub share: u32,
+    pub total: u32,
     pub tasks: [Task; State::TASKS],
     pub heads: [i8; State::QUEUES],
     pub semaphores: [Semaphore; State::SEMAPHORES],
@@ -202,7 +203,7 @@ impl State {
             clock: 0,
             stop: Stop::Going,
             running: TaskNo(0),
-            share: 0,
+            total: 0,
             tasks: tasks,
             heads: [-1i8; State::QUEUES],
             semaphores: [unused; State::SEMAPHORES],
@@ -244,6 +245,22 @@ pub fn status_number(status: Status) -> usize
     }
 }
 
+// Whether period and cost are inside their sizes.
+pub fn fitting(period: u64, cost: u64) -> bool
+    ensures { λ r. ⌜ r ≡ fitting period cost ⌝ }
+{
+    if period < 1 {
+        return false;
+    }
+    if period > State::LONGEST_PERIOD as u64 {
+        return false;
+    }
+    if cost < 1 {
+        return false;
+    }
+    cost <= period
+}
+
 // The period of a HARD class, 0 for NRT.
 pub fn period_of(class: Class) -> u32
     ensures { λ r. ⌜ r ≡ period-of class ⌝ }
@@ -276,11 +293,11 @@ pub fn stop_number(stop: Stop) -> usize
 
 // The numbers of the queues; those of the semaphores start at WAITERS.
 impl State {
-    pub const READY: usize = 0;
+    pub const READY_QUEUE: usize = 0;
 
-    pub const IDLE: usize = 1;
+    pub const IDLE_QUEUE: usize = 1;
 
-    pub const ZOMBIE: usize = 2;
+    pub const ZOMBIE_QUEUE: usize = 2;
 
     pub const WAITERS: usize = 3;
 }
@@ -304,9 +321,9 @@ pub fn queue_of(status: Status) -> usize
         Status::Free => State::QUEUES,
         Status::Sleep => State::QUEUES,
         Status::Exe => State::QUEUES,
-        Status::Ready => State::READY,
-        Status::Idle => State::IDLE,
-        Status::Zombie => State::ZOMBIE,
+        Status::Ready => State::READY_QUEUE,
+        Status::Idle => State::IDLE_QUEUE,
+        Status::Zombie => State::ZOMBIE_QUEUE,
         Status::Wait(semaphore) => waiters(semaphore),
     }
 }

@@ -8,12 +8,12 @@ use lib.Dec.{leb}
 use lib.ListN.{length}
 use borrow.Author.Tests.{ne-eqb}
 use Rattle.bytes.specs.Bytes.{indexOf, indexAfter}
+use Rattle.kernel.proofs.Decided.{either}
 use Rattle.text.specs.Text.{value}
 use Rattle.language.specs.declared.Number.{Number}
 use Rattle.language.specs.declared.Number.the-variants.{NoNumber, Is}
 use Rattle.language.specs.Language.{Digits, Decimal}
 use Rattle.language.specs.Meaning.{number-from, number-of}
-use Rattle.language.proofs.Words.{either}
 use Rattle.language.proofs.Between.{between, inside}
 use Rattle.language.proofs.Cut.{Word}
 

@@ -8,63 +8,66 @@ use Prim.Native.Nat.{ℕ}
 use Prim.Native.String.{String}
 use native.Mathlib.Omega.{arith}
 use Rattle.bytes.specs.Bytes.{indexOf, indexAfter}
-use Rattle.kernel.specs.Calls.{Call, tick, create-hard, create-nrt, activate, sleep, cycle, end, kill, new-semaphore, delete, wait, signal, clock, status, deadline, period, slack, open-channel, begin-write, piece, put, begin-reading, showing, close, screen}
+use Rattle.kernel.specs.Channels.{same-bytes}
+use Rattle.kernel.specs.Calls.{Verb, tick, create-hard, create-nrt, activate, sleep, cycle, end, kill, new-semaphore, delete, wait, signal, Call, verb, question, on-channel}
+use Rattle.kernel.proofs.Decided.{either}
 use Rattle.text.specs.Text.{bytes}
+use Rattle.verbs.specs.Verbs.{verb-of}
 use Rattle.language.specs.declared.Number.{Number}
 use Rattle.language.specs.declared.Number.the-variants.{NoNumber, Is}
 use Rattle.language.specs.declared.Line.{Line}
 use Rattle.language.specs.declared.Line.the-variants.{NoCall, Asks}
-use Rattle.language.specs.Language.{With, WithTwo, Spells}
-use Rattle.language.specs.Meaning.{call, call-of, same, asked, alone, number-of, with-one, with-number, with-two, hard, followed, before, behind, has-space, meaning}
-use Rattle.language.proofs.Words.{either, same-equal, asked-has}
+use Rattle.language.specs.Language.{With, WithTwo, SpellsVerb, Spells}
+use Rattle.language.specs.Meaning.{call-of, sought, alone, number-of, with-one, with-number, with-two, hard, followed, before, behind, has-space, meaning}
+use Rattle.language.proofs.Words.{same-equal, sought-has}
 use Rattle.language.proofs.Cut.{Word, joined, cut-behind}
 use Rattle.language.proofs.Decimals.{Spelt, spelt, is-read, digits-word}
 
 -- What a line's meaning says of it.
-abbrev Said : List ℕ → Line → Type 0
-Said line NoCall = Unit
-Said line (Asks a) = Spells (call a) line
+abbrev Meant : List ℕ → Line → Type 0
+Meant line NoCall = Unit
+Meant line (Asks v) = SpellsVerb (verb-of v) line
 
-said-alone : (line : List ℕ) → Said line (alone line)
-unfolding Spells
-said-alone line = asked-has (Said line) line tt _ (λ e. e, (λ e. e, (λ e. e, (λ e. e, tt))))
+meant-alone : (line : List ℕ) → Meant line (alone line)
+unfolding SpellsVerb
+meant-alone line = sought-has (Meant line) line tt _ (λ e. e, (λ e. e, (λ e. e, (λ e. e, tt))))
 
 module _ (line w rest : List ℕ) (joins : line ≡ w ++ (32 ∷ rest)) where
-  said-number : (n : Number) → Spelt n rest → Said line (with-number w n)
-  unfolding Spells
-  said-number NoNumber d = tt
-  said-number (Is n) d = asked-has (Said line) w tt _ (one, (one, (one, (one, (one, (one, (one, tt)))))))
+  meant-number : (n : Number) → Spelt n rest → Meant line (with-number w n)
+  unfolding SpellsVerb
+  meant-number NoNumber d = tt
+  meant-number (Is n) d = sought-has (Meant line) w tt _ (one, (one, (one, (one, (one, (one, (one, tt)))))))
     where
       one : {v : String} → w ≡ bytes v → With v n line
       one e = record { first = rest; number = d; spelt = rw e at joins }
 
-  said-two
-      : w ≡ bytes "hard" → (a b : List ℕ) → rest ≡ a ++ (32 ∷ b) → (m n : Number) → Spelt m a → Spelt n b → Said line (with-two m n)
-  unfolding Spells
-  said-two e a b k NoNumber n d f = tt
-  said-two e a b k (Is m) NoNumber d f = tt
-  said-two e a b k (Is m) (Is n) d f = record { first = a; second = b; number = d; other = f; spelt = rw (e, k) at joins }
+  meant-two
+      : w ≡ bytes "hard" → (a b : List ℕ) → rest ≡ a ++ (32 ∷ b) → (m n : Number) → Spelt m a → Spelt n b → Meant line (with-two m n)
+  unfolding SpellsVerb
+  meant-two e a b k NoNumber n d f = tt
+  meant-two e a b k (Is m) NoNumber d f = tt
+  meant-two e a b k (Is m) (Is n) d f = record { first = a; second = b; number = d; other = f; spelt = rw (e, k) at joins }
 
-  said-hard : w ≡ bytes "hard" → Said line (hard rest)
-  said-hard e =
+  meant-hard : w ≡ bytes "hard" → Meant line (hard rest)
+  meant-hard e =
       let a = before rest in
       let b = behind rest in
-      either (Said line) (has-space rest) (λ k. said-two e a b (joined rest k) (number-of a) (number-of b) (spelt a) (spelt b)) (λ k. tt)
+      either (Meant line) (has-space rest) (λ k. meant-two e a b (joined rest k) (number-of a) (number-of b) (spelt a) (spelt b)) (λ k. tt)
 
-  said-followed : Said line (followed w rest)
-  said-followed =
-      either (Said line) (same w (bytes "hard")) (λ e. said-hard (same-equal w (bytes "hard") e)) (λ e. said-number (number-of rest) (spelt rest))
+  meant-followed : Meant line (followed w rest)
+  meant-followed =
+      either (Meant line) (same-bytes w (bytes "hard")) (λ e. meant-hard (same-equal w (bytes "hard") e)) (λ e. meant-number (number-of rest) (spelt rest))
 
-said : (line : List ℕ) → Said line (meaning line)
+meant : (line : List ℕ) → Meant line (meaning line)
 unfolding meaning
-said line =
-    either (Said line) (has-space line) (λ h. said-followed line (before line) (behind line) (joined line h)) (λ h. said-alone line)
+meant line =
+    either (Meant line) (has-space line) (λ h. meant-followed line (before line) (behind line) (joined line h)) (λ h. meant-alone line)
 
 -- A verb other than hard, and a decimal.
 one
     : {v : String} {n : ℕ} {line : List ℕ}
     → Word (bytes v)
-    → same (bytes v) (bytes "hard") ≡ false
+    → same-bytes (bytes v) (bytes "hard") ≡ false
     → With v n line
     → meaning line ≡ with-one (bytes v) n
 unfolding meaning
@@ -73,7 +76,7 @@ one {v} word other s =
     rw (s .spelt, cut-behind (bytes v) d word followed (alone (bytes v ++ (32 ∷ d))), other, is-read (s .number))
 
 two : {m n : ℕ} {line : List ℕ} → WithTwo "hard" m n line → meaning line ≡ with-two (Is m) (Is n)
-unfolding meaning indexOf indexAfter same
+unfolding meaning indexOf indexAfter same-bytes
 two s =
     let ds = s .first ++ (32 ∷ s .second) in
     let word = digits-word (s .first) (s .number .digits) in
@@ -85,38 +88,30 @@ two s =
       is-read (s .other),
     )
 
-means : (line : List ℕ) (c : Call) → Spells c line → call-of (meaning line) ≡ some c
-unfolding Spells meaning asked same indexOf indexAfter
-means line tick s = rw s
-means line (create-hard p c) s = ap call-of (two s)
-means line (create-nrt p) s = ap call-of (one refl refl s)
-means line (activate n) s = ap call-of (one refl refl s)
-means line sleep s = rw s
-means line cycle s = rw s
-means line end s = rw s
-means line (kill n) s = ap call-of (one refl refl s)
-means line (new-semaphore n) s = ap call-of (one refl refl s)
-means line (delete n) s = ap call-of (one refl refl s)
-means line (wait n) s = ap call-of (one refl refl s)
-means line (signal n) s = ap call-of (one refl refl s)
-means line clock s = absurd s
-means line (status n) s = absurd s
-means line (deadline n) s = absurd s
-means line (period n) s = absurd s
-means line (slack n) s = absurd s
-means line (open-channel n b) s = absurd s
-means line (begin-write c) s = absurd s
-means line (piece c a bs) s = absurd s
-means line (put c) s = absurd s
-means line (begin-reading c) s = absurd s
-means line (showing c) s = absurd s
-means line (close c) s = absurd s
-means line (screen c text) s = absurd s
+verb-means : (line : List ℕ) (v : Verb) → SpellsVerb v line → call-of (meaning line) ≡ some (verb v)
+unfolding SpellsVerb meaning sought same-bytes indexOf indexAfter
+verb-means line tick s = rw s
+verb-means line (create-hard p c) s = ap call-of (two s)
+verb-means line (create-nrt p) s = ap call-of (one refl refl s)
+verb-means line (activate n) s = ap call-of (one refl refl s)
+verb-means line sleep s = rw s
+verb-means line cycle s = rw s
+verb-means line end s = rw s
+verb-means line (kill n) s = ap call-of (one refl refl s)
+verb-means line (new-semaphore n) s = ap call-of (one refl refl s)
+verb-means line (delete n) s = ap call-of (one refl refl s)
+verb-means line (wait n) s = ap call-of (one refl refl s)
+verb-means line (signal n) s = ap call-of (one refl refl s)
 
-spells : (line : List ℕ) (c : Call) (m : Line) → Said line m → call-of m ≡ some c → Spells c line
+means : (line : List ℕ) (c : Call) → Spells c line → call-of (meaning line) ≡ some c
+means line (verb v) s = verb-means line v s
+means line (question q) s = absurd s
+means line (on-channel a) s = absurd s
+
+spells : (line : List ℕ) (c : Call) (m : Line) → Meant line m → call-of m ≡ some c → Spells c line
 spells line c NoCall h e = absurd (let z : _≡_ {A = ℕ} 0 1 = cc in omega arith)
-spells line c (Asks a) h e = let it : call a ≡ c = cc in subst (λ x. Spells x line) it h
+spells line c (Asks v) h e = let it : verb (verb-of v) ≡ c = cc in subst (λ x. Spells x line) it h
 
 -- **language**: a line means the call c exactly where it spells it; so a line that spells no call means none, and none spells two.
 pub language : (line : List ℕ) (c : Call) → (call-of (meaning line) ≡ some c) ↔ Spells c line
-language line c = (spells line c (meaning line) (said line), means line c)
+language line c = (spells line c (meaning line) (meant line), means line c)

@@ -4,31 +4,17 @@ ghost use Rattle.language.specs.Meaning as Meaning;
 ghost use Rattle.language.specs.Meaning.{number-of, meaning};
 use kernel::SemaphoreNo;
 use kernel::TaskNo;
+use verbs::Verb;
 
-pub enum Number {
+enum Number {
     NoNumber,
     Is(u64),
 }
 
-// A call that has a verb, with whatever numbers its line has.
-pub enum Asked {
-    Tick,
-    Hard(u64, u64),
-    Nrt(u64),
-    Activate(TaskNo),
-    Sleep,
-    Cycle,
-    End,
-    Kill(TaskNo),
-    Newsem(u64),
-    Delsem(SemaphoreNo),
-    Wait(SemaphoreNo),
-    Signal(SemaphoreNo),
-}
-
+// What a line asks for.
 pub enum Line {
     NoCall,
-    Asks(Asked),
+    Asks(Verb),
 }
 
 // Ten digits have room in 64 bits.
@@ -61,16 +47,16 @@ fn alone(verb: &[u8]) -> Line
     ensures { λ r. ⌜ r ≡ Meaning.alone (now (verb .entry)) ⌝ }
 {
     if check::same(verb, b"tick") {
-        return Line::Asks(Asked::Tick);
+        return Line::Asks(Verb::Tick);
     }
     if check::same(verb, b"sleep") {
-        return Line::Asks(Asked::Sleep);
+        return Line::Asks(Verb::Sleep);
     }
     if check::same(verb, b"cycle") {
-        return Line::Asks(Asked::Cycle);
+        return Line::Asks(Verb::Cycle);
     }
     if check::same(verb, b"end") {
-        return Line::Asks(Asked::End);
+        return Line::Asks(Verb::End);
     }
     Line::NoCall
 }
@@ -79,25 +65,25 @@ fn with_one(verb: &[u8], n: u64) -> Line
     ensures { λ r. ⌜ r ≡ Meaning.with-one (now (verb .entry)) n ⌝ }
 {
     if check::same(verb, b"nrt") {
-        return Line::Asks(Asked::Nrt(n));
+        return Line::Asks(Verb::Nrt(n));
     }
     if check::same(verb, b"activate") {
-        return Line::Asks(Asked::Activate(TaskNo(n as usize)));
+        return Line::Asks(Verb::Activate(TaskNo(n as usize)));
     }
     if check::same(verb, b"kill") {
-        return Line::Asks(Asked::Kill(TaskNo(n as usize)));
+        return Line::Asks(Verb::Kill(TaskNo(n as usize)));
     }
     if check::same(verb, b"newsem") {
-        return Line::Asks(Asked::Newsem(n));
+        return Line::Asks(Verb::Newsem(n));
     }
     if check::same(verb, b"delsem") {
-        return Line::Asks(Asked::Delsem(SemaphoreNo(n as usize)));
+        return Line::Asks(Verb::Delsem(SemaphoreNo(n as usize)));
     }
     if check::same(verb, b"wait") {
-        return Line::Asks(Asked::Wait(SemaphoreNo(n as usize)));
+        return Line::Asks(Verb::Wait(SemaphoreNo(n as usize)));
     }
     if check::same(verb, b"signal") {
-        return Line::Asks(Asked::Signal(SemaphoreNo(n as usize)));
+        return Line::Asks(Verb::Signal(SemaphoreNo(n as usize)));
     }
     Line::NoCall
 }
@@ -111,7 +97,7 @@ fn with_two(period: Number, cost: Number) -> Line
     let Number::Is(c) = cost else {
         return Line::NoCall;
     };
-    Line::Asks(Asked::Hard(p, c))
+    Line::Asks(Verb::Hard(p, c))
 }
 
 fn space(line: &[u8]) -> usize

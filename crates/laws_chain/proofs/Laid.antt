@@ -33,18 +33,18 @@ along n back (x ∷ xs) o b =
     (b .0, refl, rw here refl, rw here rest)
 
 -- **laid**: links that are so in the list of each task's own place, and heads that are the first of each list, hold the queues.
-pub laid : {n m : ℕ} {place deadline : ℕ → ℕ} {next previous head : ℕ → ℤ} {queue : ℕ → List ℕ}
-    → ((q : ℕ) → q < m → Queue n place deadline q (queue q)) → ((q : ℕ) → m ≤ q → queue q ≡ [])
-    → ((x : ℕ) → x < n → (next x ≡ after (queue (place x)) x) × (previous x ≡ before end (queue (place x)) x)) → ((q : ℕ) → q < m → head q ≡ start end (queue q))
-    → Filed n m place next previous head queue
-laid {n} {m} {place} {deadline} {next} {previous} {head} {queue} k none links heads =
+pub laid : {n m : ℕ} {standing deadline : ℕ → ℕ} {next previous head : ℕ → ℤ} {queue : ℕ → List ℕ}
+    → ((q : ℕ) → q < m → Queue n standing deadline q (queue q)) → ((q : ℕ) → m ≤ q → queue q ≡ [])
+    → ((x : ℕ) → x < n → (next x ≡ after (queue (standing x)) x) × (previous x ≡ before end (queue (standing x)) x)) → ((q : ℕ) → q < m → head q ≡ start end (queue q))
+    → Filed n m standing next previous head queue
+laid {n} {m} {standing} {deadline} {next} {previous} {head} {queue} k none links heads =
     record {
       linked = λ q l. record { whole = rw (heads q l) (chain q (k q l)) };
-      alone-next = λ x l h. links x l .0 ∙ ap (λ (ys : List ℕ). after ys x) (none (place x) h);
-      alone-previous = λ x l h. links x l .1 ∙ ap (λ (ys : List ℕ). before end ys x) (none (place x) h);
+      alone-next = λ x l h. links x l .0 ∙ ap (λ (ys : List ℕ). after ys x) (none (standing x) h);
+      alone-previous = λ x l h. links x l .1 ∙ ap (λ (ys : List ℕ). before end ys x) (none (standing x) h);
     }
   where
-    chain : (q : ℕ) → Queue n place deadline q (queue q) → Stretch n next previous end end (start end (queue q)) (queue q)
+    chain : (q : ℕ) → Queue n standing deadline q (queue q) → Stretch n next previous end end (start end (queue q)) (queue q)
     chain q kq =
         let xs = queue q in
         let own : All (λ (x : ℕ). (next x ≡ after xs x) × (previous x ≡ before end xs x)) xs = all-map (λ x o. rw (o .1) at (links x (o .0))) xs (kq .only) in

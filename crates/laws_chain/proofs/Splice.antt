@@ -43,15 +43,15 @@ not-start x [] a e = no-task x e
 not-start x (v ∷ vs) a e = a .0 (same-task x v e)
 
 -- The head of us, which then go on to v: v itself where there are none of them.
-abbrev turn : ℤ → ℤ → List ℕ → ℤ
-turn v head [] = v
-turn v head (u ∷ us) = head
+abbrev head-or : ℤ → ℤ → List ℕ → ℤ
+head-or v head [] = v
+head-or v head (u ∷ us) = head
 
 finish-task : (n : ℕ) (u : ℕ) (us : List ℕ) → All (λ (x : ℕ). x < n) (u ∷ us) → target n (finish (pos u) us) < n
 finish-task n u [] l = l .0
 finish-task n u (w ∷ us) l = finish-task n w us (l .1)
 
-turn-head : (n : ℕ) (v head : ℤ) (us : List ℕ) → All (λ (x : ℕ). x < n) us → new-head n (finish end us) head v ≡ turn v head us
+turn-head : (n : ℕ) (v head : ℤ) (us : List ℕ) → All (λ (x : ℕ). x < n) us → new-head n (finish end us) head v ≡ head-or v head us
 turn-head n v head [] l = rw (le-ltb n n (omega arith)) refl
 turn-head n v head (u ∷ us) l = rw (lt-ltb (target n (finish (pos u) us)) n (finish-task n u us l)) refl
 
@@ -82,7 +82,7 @@ module _ {n i : ℕ} {before after v w : ℤ} {next previous next′ previous′
 
   -- The front now goes on to v.
   front-turned : (tail back head : ℤ) (us : List ℕ) → before ≡ finish back us → All (λ (x : ℕ). previous′ x ≡ previous x) us → Once us → Absent i us
-      → Stretch n next previous tail back head us → Stretch n next′ previous′ v back (turn v head us) us
+      → Stretch n next previous tail back head us → Stretch n next′ previous′ v back (head-or v head us) us
   front-turned tail back head [] e a o b s = refl
   front-turned tail back head (u ∷ []) e a o b s = (s .0, s .1, a .0 ∙ s .2, r .next-turned u (s .0) (λ q. b .0 (sym q)) (sym e))
   front-turned tail back head (u ∷ x ∷ us) e a o b s =
@@ -109,7 +109,7 @@ module _ {n i : ℕ} {before after v w : ℤ} {next previous next′ previous′
   -- Both sides of the place between them.
   both-sides : (tail back head : ℤ) (us vs : List ℕ) → before ≡ finish end us → after ≡ start end vs → Once (us ++ vs) → Absent i (us ++ vs)
       → Stretch n next previous tail end head us → Stretch n next previous end back (start end vs) vs
-      → Stretch n next′ previous′ v end (turn v head us) us × Stretch n next′ previous′ end w (start end vs) vs
+      → Stretch n next′ previous′ v end (head-or v head us) us × Stretch n next′ previous′ end w (start end vs) vs
   both-sides tail back head us vs eb ea o a s t =
       let au : Absent i us = all-left _ us vs a in
       let av : Absent i vs = all-right _ us vs a in (
@@ -140,9 +140,9 @@ gone {n} {i} {next} {previous} {next′} {previous′} {head} {head′} {xs} m r
     let eb = neighbours m c .0 in
     let ea = neighbours m c .1 in
     let t = both-sides r (pos i) (pos i) head us vs eb ea (rw (m .less) at (o .1)) (rw (m .less) at (o .0)) (p .0) (rw ea at (p .1 .3)) in
-    let h : head′ ≡ turn (start end vs) head us =
+    let h : head′ ≡ head-or (start end vs) head us =
     eh ∙ rw (eb, ea) (turn-head n (start end vs) head us (below n next previous (pos i) end head us (p .0))) in
-    record { whole = rw (h, m .less) (joined n next′ previous′ end end (turn (start end vs) head us) us vs (rw ea at (t .0)) (rw eb at (t .1))) }
+    record { whole = rw (h, m .less) (joined n next′ previous′ end end (head-or (start end vs) head us) us vs (rw ea at (t .0)) (rw eb at (t .1))) }
 
 -- i comes in between the link `before` and the link `after`.
 pub come : {n i : ℕ} {before after : ℤ} {next previous next′ previous′ : ℕ → ℤ} {head head′ : ℤ} {xs ys : List ℕ} (m : More i xs ys)
@@ -155,5 +155,5 @@ come {n} {i} {before} {after} {next} {previous} {next′} {previous′} {head} {
     let p = parted n next previous end end head us vs (rw (m .less) at (c .whole)) in
     let o = once n next previous end head ys (c .whole) in
     let t = both-sides r (start end vs) (finish end us) head us vs eb ea (rw (m .less) at o) (rw (m .less) at a) (p .0) (p .1) in
-    let h : head′ ≡ turn (pos i) head us = eh ∙ rw eb (turn-head n (pos i) head us (below n next previous (start end vs) end head us (p .0))) in
-    record { whole = rw (h, m .more) (joined n next′ previous′ end end (turn (pos i) head us) us (i ∷ vs) (t .0) (li, refl, ep ∙ eb, rw (en ∙ ea) (t .1))) }
+    let h : head′ ≡ head-or (pos i) head us = eh ∙ rw eb (turn-head n (pos i) head us (below n next previous (start end vs) end head us (p .0))) in
+    record { whole = rw (h, m .more) (joined n next′ previous′ end end (head-or (pos i) head us) us (i ∷ vs) (t .0) (li, refl, ep ∙ eb, rw (en ∙ ea) (t .1))) }

@@ -9,17 +9,17 @@ use denote.Ref.{RefT}
 use Rattle.kernel.specs.declared.State.{State}
 use Rattle.kernel.specs.declared.Reply.{Reply}
 use Rattle.kernel.specs.Calls as Calls
-use Rattle.kernel.specs.Calls.{Call, Shown, part, standby, Effect, effect, told, done, showed}
+use Rattle.kernel.specs.Calls.{Call, verb, question, on-channel, Shown, part, standby, Effect, told, showed, done, with-memory, effect}
 use Rattle.kernel.specs.Refusals.{Row, first, rows}
 use Rattle.kernel.specs.Seen.{seen}
 use Rattle.kernel.specs.Slices.{Slice, slice, part-of}
 use Rattle.kernel.specs.Shows.{Shows}
 use Rattle.kernel.specs.Promise.{handed, handed-back, Loan, answer-of, unchanged, Unlent, Lent, Showing}
 use Rattle.refusals.specs.declared.Verdict.{Verdict}
-use Rattle.refusals.specs.declared.Verdict.the-variants.{Passes, Refuses}
+use Rattle.refusals.specs.declared.Verdict.the-variants.{Accepts, Refuses}
 use Rattle.refusals.specs.Tested.{number-of, refuses, Tested, Judged, Refusal}
 use Rattle.refusals.proofs.Answers.{refused, took-effect, lent-refused, lent-took-effect}
-use Rattle.reading.specs.Message.{message, either}
+use Rattle.reading.specs.Message.{message, by-verdict}
 use Rattle.reading.proofs.HandsBack as HandsBack
 use Rattle.laws_promises.proofs.Answers.{next-good}
 use Rattle.laws_promises.proofs.States as States
@@ -53,13 +53,13 @@ module _ (s : State) (m : List ℕ) where
         let a = always-answers c s (with-text (anywhere [])) .answered in
         let go : (o : Option ℤ) → first (rows c (handed (a .sound) s m)) ≡ o → (v : Verdict) × Judged c s m v =
         λ o. elim o [
-          | none ↦ λ e. (Passes, record { tested = record { sound = a .sound; decided = a .decided; says = e } })
+          | none ↦ λ e. (Accepts, record { tested = record { sound = a .sound; decided = a .decided; says = e } })
           | some n ↦ λ e. (Refuses n, record { tested = record { sound = a .sound; decided = a .decided; says = e } })
         ] in
         go (first (rows c (handed (a .sound) s m))) refl
 
     -- Where it lets the call pass, there is a state that shows the next kernel.
-    next : Judged c s m Passes → Shows (state-of (does c .kernel)) (does c .kernel)
+    next : Judged c s m Accepts → Shows (state-of (does c .kernel)) (does c .kernel)
     next j =
         let t = j .tested in
         States.shown (does c .kernel) (next-good c s (with-text (anywhere [])) (t .sound) (t .decided) (t .says))
@@ -76,23 +76,23 @@ module _ (s : State) (m : List ℕ) where
 
         go : (v : Verdict) → Judged c s m v → GivenBy s m c
         go (Refuses x) j = given (made _ (refused (everywhere j) refl (λ n i. effect-is i n .instead)))
-        go Passes j = given (made _ (took-effect (everywhere j) refl (λ n i. effect-is i n) (next j)))
+        go Accepts j = given (made _ (took-effect (everywhere j) refl (λ n i. effect-is i n) (next j)))
 
     -- One that is lent the memory, and leaves the bytes n in it where nothing refuses its call.
-    lent : (n : List ℕ) → does c ≡ done (does c .kernel) n → ((r : Reply) → Lent c s (anywhere m) r m → Made s m r c m none)
+    lent : (n : List ℕ) → does c ≡ with-memory (done (does c .kernel)) n → ((r : Reply) → Lent c s (anywhere m) r m → Made s m r c m none)
         → ((r : Reply) → Lent c s (anywhere m) r n → Made s m r c n none)
         → GivenBy s m c
     lent n is kept wrote = go (judged .0) (judged .1)
       where
         go : (v : Verdict) → Judged c s m v → GivenBy s m c
         go (Refuses x) j = given (kept _ (lent-refused j refl (λ i. is i .instead)))
-        go Passes j = given (wrote _ (lent-took-effect j refl is (next j)))
+        go Accepts j = given (wrote _ (lent-took-effect j refl is (next j)))
 
     -- One that only reads it, and one that writes into it.
-    reads : does c ≡ done (does c .kernel) m → ((r : Reply) → Lent c s (anywhere m) r m → Made s m r c m none) → GivenBy s m c
+    reads : does c ≡ with-memory (done (does c .kernel)) m → ((r : Reply) → Lent c s (anywhere m) r m → Made s m r c m none) → GivenBy s m c
     reads is made = lent m is made made
 
-    writes : does c ≡ done (does c .kernel) (does c .memory) → ((r : Reply) (n : List ℕ) → Lent c s (anywhere m) r n → Made s m r c n none) → GivenBy s m c
+    writes : does c ≡ with-memory (done (does c .kernel)) (does c .memory) → ((r : Reply) (n : List ℕ) → Lent c s (anywhere m) r n → Made s m r c n none) → GivenBy s m c
     writes is made = lent (does c .memory) is (λ r. made r m) (λ r. made r (does c .memory))
 
     -- One that shows the message on channel n or, refused, the slice x.
@@ -103,38 +103,38 @@ module _ (s : State) (m : List ℕ) where
         → GivenBy s m c
     shows n other x is made =
         let v = judged .0 in
-        let y = either v (message (seen s) n (anywhere m)) x in
+        let y = by-verdict v (message (seen s) n (anywhere m)) x in
         given (made (record { ptr = y .place; name = 0; now = y .bytes }) (to (refuses v)) (to (number-of v)) (λ text due. HandsBack.shows (with-text text) n other x is due v (judged .1)))
 
   -- **every-call**: whatever the state, the call and the bytes of the memory, there is a reply that the function's contract permits.
   pub every-call : (c : Call) → GivenBy s m c
   unfolding effect
-  every-call Calls.tick = unlent refl refl (λ r. tick)
-  every-call (Calls.create-hard p c) = unlent refl refl (λ r. create-hard p c)
-  every-call (Calls.create-nrt p) = unlent refl refl (λ r. create-nrt p)
-  every-call (Calls.activate x) = unlent refl refl (λ r. activate (record { 0 = x }))
-  every-call Calls.sleep = unlent refl refl (λ r. sleep)
-  every-call Calls.cycle = unlent refl refl (λ r. cycle)
-  every-call Calls.end = unlent refl refl (λ r. end)
-  every-call (Calls.kill x) = unlent refl refl (λ r. kill (record { 0 = x }))
-  every-call (Calls.new-semaphore count) = unlent refl refl (λ r. new-semaphore count)
-  every-call (Calls.delete x) = unlent refl refl (λ r. delete (record { 0 = x }))
-  every-call (Calls.wait x) = unlent refl refl (λ r. wait (record { 0 = x }))
-  every-call (Calls.signal x) = unlent refl refl (λ r. signal (record { 0 = x }))
-  every-call Calls.clock = unlent refl refl (λ r. clock)
-  every-call (Calls.status x) = unlent refl refl (λ r. status (record { 0 = x }))
-  every-call (Calls.deadline x) = unlent refl refl (λ r. deadline (record { 0 = x }))
-  every-call (Calls.period x) = unlent refl refl (λ r. period (record { 0 = x }))
-  every-call (Calls.slack x) = unlent refl refl (λ r. slack (record { 0 = x }))
-  every-call (Calls.open-channel size buffers) = unlent refl refl (λ r. open-channel size buffers)
-  every-call (Calls.begin-write x) = writes refl (λ r n. begin-write ([], tt) (record { 0 = x }) (to m) (to n) refl)
-  every-call (Calls.piece x a bs) = writes refl (λ r n. piece ([], ([], tt)) (record { 0 = x }) a (to bs) (to m) (to n) refl)
-  every-call (Calls.put x) = reads refl (λ r. put ([], tt) (record { 0 = x }) (to m) refl)
-  every-call (Calls.begin-reading x) = reads refl (λ r. begin-reading ([], tt) (record { 0 = x }) (to m) refl)
-  every-call (Calls.showing x) =
+  every-call (verb Calls.tick) = unlent refl refl (λ r. tick)
+  every-call (verb (Calls.create-hard p c)) = unlent refl refl (λ r. create-hard p c)
+  every-call (verb (Calls.create-nrt p)) = unlent refl refl (λ r. create-nrt p)
+  every-call (verb (Calls.activate x)) = unlent refl refl (λ r. activate (record { 0 = x }))
+  every-call (verb Calls.sleep) = unlent refl refl (λ r. sleep)
+  every-call (verb Calls.cycle) = unlent refl refl (λ r. cycle)
+  every-call (verb Calls.end) = unlent refl refl (λ r. end)
+  every-call (verb (Calls.kill x)) = unlent refl refl (λ r. kill (record { 0 = x }))
+  every-call (verb (Calls.new-semaphore count)) = unlent refl refl (λ r. new-semaphore count)
+  every-call (verb (Calls.delete x)) = unlent refl refl (λ r. delete (record { 0 = x }))
+  every-call (verb (Calls.wait x)) = unlent refl refl (λ r. wait (record { 0 = x }))
+  every-call (verb (Calls.signal x)) = unlent refl refl (λ r. signal (record { 0 = x }))
+  every-call (question Calls.clock) = unlent refl refl (λ r. clock)
+  every-call (question (Calls.status x)) = unlent refl refl (λ r. status (record { 0 = x }))
+  every-call (question (Calls.deadline x)) = unlent refl refl (λ r. deadline (record { 0 = x }))
+  every-call (question (Calls.period x)) = unlent refl refl (λ r. period (record { 0 = x }))
+  every-call (question (Calls.slack x)) = unlent refl refl (λ r. slack (record { 0 = x }))
+  every-call (on-channel (Calls.open-channel size buffers)) = unlent refl refl (λ r. open-channel size buffers)
+  every-call (on-channel (Calls.begin-write x)) = writes refl (λ r n. begin-write ([], tt) (record { 0 = x }) (to m) (to n) refl)
+  every-call (on-channel (Calls.piece x a bs)) = writes refl (λ r n. piece ([], ([], tt)) (record { 0 = x }) a (to bs) (to m) (to n) refl)
+  every-call (on-channel (Calls.put x)) = reads refl (λ r. put ([], tt) (record { 0 = x }) (to m) refl)
+  every-call (on-channel (Calls.begin-reading x)) = reads refl (λ r. begin-reading ([], tt) (record { 0 = x }) (to m) refl)
+  every-call (on-channel (Calls.showing x)) =
       shows x (part 0 0) (part-of (anywhere m) 0 0) refl
       (λ g mark number p. showing ([], ([], ([], tt))) (record { 0 = x }) (to m) g mark mark number number refl (λ text. p text refl) refl)
-  every-call (Calls.close x) = reads refl (λ r. close ([], tt) (record { 0 = x }) (to m) refl)
-  every-call (Calls.screen x text) =
+  every-call (on-channel (Calls.close x)) = reads refl (λ r. close ([], tt) (record { 0 = x }) (to m) refl)
+  every-call (on-channel (Calls.screen x text)) =
       shows x standby (anywhere text) refl
       (λ g mark number p. screen ([], ([], ([], tt))) (record { 0 = x }) (to m) (to text) g mark mark number number refl (p (anywhere text) refl) refl)

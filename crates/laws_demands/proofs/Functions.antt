@@ -7,7 +7,6 @@ use denote.Ref.{RefT}
 use Rattle.kernel.specs.declared.Answer.{Answer}
 use Rattle.kernel.specs.declared.State.{State}
 use Rattle.kernel.specs.declared.Reply.{Reply}
-use Rattle.kernel.specs.Calls as Calls
 use Rattle.kernel.specs.Calls.{Call}
 use Rattle.kernel.specs.Slices.{Slice, slice}
 use Rattle.kernel.specs.Promise.{Loan, Answered, Unlent, Lent, answer-of, unchanged}
@@ -35,14 +34,14 @@ anywhere bs = record { place = (0, 0); bytes = bs }
 
 module _ {s : State} {m : List ℕ} {r : Reply} where
   -- A function that is lent nothing.
-  unlent : (c : Call) → instead (asks c) ≡ [] → Unlent c s r → Promised s m r c m none
-  unlent c e p =
+  unlent : {c : Call} → instead (asks c) ≡ [] → Unlent c s r → Promised s m r c m none
+  unlent e p =
       let l : Loan = record { memory = anywhere m; standby = anywhere [] } in
       record { loan = l; given = none; answered = p l; lent = refl; text = sym e; shown-is = refl }
 
   -- One that is lent the memory.
-  lent : (c : Call) (memory : RefT (List ℕ)) (left : List ℕ) → instead (asks c) ≡ [] → memory .now ≡ m → Lent c s (slice memory) r left → Promised s m r c left none
-  lent c memory left e held p =
+  lent : {c : Call} (memory : RefT (List ℕ)) (left : List ℕ) → instead (asks c) ≡ [] → memory .now ≡ m → Lent c s (slice memory) r left → Promised s m r c left none
+  lent memory left e held p =
       record {
         loan = record { memory = slice memory; standby = anywhere [] };
         given = none;
@@ -52,11 +51,15 @@ module _ {s : State} {m : List ℕ} {r : Reply} where
         shown-is = refl;
       }
 
+  -- One that only reads it.
+  reads : {c : Call} (memory : RefT (List ℕ)) → instead (asks c) ≡ [] → memory .now ≡ m → Lent c s (slice memory) r (memory .now) → Promised s m r c m none
+  reads {c} memory e held p = lent memory m e held (subst (Lent c s (slice memory) r) held p)
+
   -- One that hands back a slice, and its answer through references.
-  shows : (c : Call) (memory given : RefT (List ℕ)) (text : Slice) (a : Answer) → text .bytes ≡ instead (asks c) → memory .now ≡ m → r ≡ unchanged s a
+  shows : {c : Call} (memory given : RefT (List ℕ)) (text : Slice) (a : Answer) → text .bytes ≡ instead (asks c) → memory .now ≡ m → r ≡ unchanged s a
       → Answered c s (record { memory = slice memory; standby = text }) (record { reply = unchanged s a; memory = memory .now; shown = some (slice given) })
       → Promised s m r c m (some (given .now))
-  shows c memory given text a e held f p =
+  shows {c} memory given text a e held f p =
       let l : Loan = record { memory = slice memory; standby = text } in
       let replied = subst (λ (x : Reply). Answered c s l (record { reply = x; memory = memory .now; shown = some (slice given) })) (sym f) p in
       record {
@@ -69,29 +72,29 @@ module _ {s : State} {m : List ℕ} {r : Reply} where
       }
 
   pub promised : {c : Call} {left : List ℕ} {shown : Option (List ℕ)} → Made s m r c left shown → Promised s m r c left shown
-  promised (tick p) = unlent Calls.tick refl p
-  promised (create-hard a b p) = unlent (Calls.create-hard a b) refl p
-  promised (create-nrt a p) = unlent (Calls.create-nrt a) refl p
-  promised (activate n p) = unlent (Calls.activate (n .0)) refl p
-  promised (sleep p) = unlent Calls.sleep refl p
-  promised (cycle p) = unlent Calls.cycle refl p
-  promised (end p) = unlent Calls.end refl p
-  promised (kill n p) = unlent (Calls.kill (n .0)) refl p
-  promised (new-semaphore a p) = unlent (Calls.new-semaphore a) refl p
-  promised (delete n p) = unlent (Calls.delete (n .0)) refl p
-  promised (wait n p) = unlent (Calls.wait (n .0)) refl p
-  promised (signal n p) = unlent (Calls.signal (n .0)) refl p
-  promised (clock p) = unlent Calls.clock refl p
-  promised (status n p) = unlent (Calls.status (n .0)) refl p
-  promised (deadline n p) = unlent (Calls.deadline (n .0)) refl p
-  promised (period n p) = unlent (Calls.period (n .0)) refl p
-  promised (slack n p) = unlent (Calls.slack (n .0)) refl p
-  promised (open-channel a b p) = unlent (Calls.open-channel a b) refl p
-  promised (begin-write κ n memory left e p) = lent (Calls.begin-write (n .0)) memory (left .now) refl e p
-  promised (piece κ n a bs memory left e p) = lent (Calls.piece (n .0) a (bs .now)) memory (left .now) refl e p
-  promised (put κ n memory e p) = lent (Calls.put (n .0)) memory m refl e (subst (Lent (Calls.put (n .0)) s (slice memory) r) e p)
-  promised (begin-reading κ n memory e p) = lent (Calls.begin-reading (n .0)) memory m refl e (subst (Lent (Calls.begin-reading (n .0)) s (slice memory) r) e p)
-  promised (close κ n memory e p) = lent (Calls.close (n .0)) memory m refl e (subst (Lent (Calls.close (n .0)) s (slice memory) r) e p)
-  promised (showing κ n memory given refused mark number told e p f) = shows (Calls.showing (n .0)) memory given (anywhere []) (answer-of (mark .now) (told .now)) refl e f (p (anywhere []))
+  promised (tick p) = unlent refl p
+  promised (create-hard a b p) = unlent refl p
+  promised (create-nrt a p) = unlent refl p
+  promised (activate n p) = unlent refl p
+  promised (sleep p) = unlent refl p
+  promised (cycle p) = unlent refl p
+  promised (end p) = unlent refl p
+  promised (kill n p) = unlent refl p
+  promised (new-semaphore a p) = unlent refl p
+  promised (delete n p) = unlent refl p
+  promised (wait n p) = unlent refl p
+  promised (signal n p) = unlent refl p
+  promised (clock p) = unlent refl p
+  promised (status n p) = unlent refl p
+  promised (deadline n p) = unlent refl p
+  promised (period n p) = unlent refl p
+  promised (slack n p) = unlent refl p
+  promised (open-channel a b p) = unlent refl p
+  promised (begin-write κ n memory left e p) = lent memory (left .now) refl e p
+  promised (piece κ n a bs memory left e p) = lent memory (left .now) refl e p
+  promised (put κ n memory e p) = reads memory refl e p
+  promised (begin-reading κ n memory e p) = reads memory refl e p
+  promised (close κ n memory e p) = reads memory refl e p
+  promised (showing κ n memory given refused mark number told e p f) = shows memory given (anywhere []) (answer-of (mark .now) (told .now)) refl e f (p (anywhere []))
   promised (screen κ n memory standby given refused mark number told e p f) =
-      shows (Calls.screen (n .0) (standby .now)) memory given (slice standby) (answer-of (mark .now) (told .now)) refl e f p
+      shows memory given (slice standby) (answer-of (mark .now) (told .now)) refl e f p

@@ -1,11 +1,12 @@
 -- A run of the public functions goes as the model's. Assumes nothing.
 use mathlib.Core.Path.{_≡_, refl, ap, sym, subst, _∙_}
-use mathlib.Core.Bool.{true}
+use mathlib.Core.Bool.{true, false, false≢true, not}
 use mathlib.Core.List.{List, _∷_}
 use mathlib.Core.Option.{Option}
 use Prim.Native.Nat.{ℕ}
 use Rattle.kernel.specs.declared.State.{State}
 use Rattle.kernel.specs.declared.Reply.{Reply}
+use Rattle.kernel.specs.Answer.{Said}
 use Rattle.kernel.specs.Calls.{Call, Shown, nothing, part, standby}
 use Rattle.kernel.specs.Refusals.{Handed}
 use Rattle.kernel.specs.Step.{Outcome, step}
@@ -16,9 +17,9 @@ use Rattle.kernel.specs.Promise as Promise
 use Rattle.kernel.proofs.Fresh.{fresh-sound, fresh-seen}
 use Rattle.laws_promises.proofs.Answers.{call-sound}
 use Rattle.laws_promises.proofs.SeenAs.{SeenAs, as-step}
-use Rattle.laws_runs.specs.Trace.{Event, asks, instead}
+use Rattle.laws_runs.specs.Trace.{Event, own-events, AsidesRefused, asks, instead}
 use Rattle.laws_runs.specs.Run.{bytes-of, World, handed, after, trace}
-use Rattle.laws_demands.specs.Run.{Run, start, call}
+use Rattle.laws_demands.specs.Run.{event, Run, start, call, aside}
 use Rattle.laws_demands.specs.AsModel.{calls, AsModel}
 use Rattle.laws_demands.proofs.Functions.{bytes, Promised, promised}
 
@@ -29,8 +30,8 @@ bytes-handed (part a n) l = refl
 bytes-handed standby l = refl
 
 -- So goes a run, call by call.
-next : {m n left : List ℕ} {s : State} {h : List Event} {c : Call} {r : Reply} {shown : Option (List ℕ)} → AsModel m s n h → Promised s n r c left shown
-    → AsModel m (r .state) left (record { who = s .running .0; call = c; answer = r .answer; shown = shown } ∷ h)
+pub next : {m n left : List ℕ} {s : State} {h : List Event} {c : Call} {r : Reply} {shown : Option (List ℕ)} → AsModel m s n h → Promised s n r c left shown
+    → AsModel m (r .state) left (event false s c r shown ∷ h)
 unfolding after trace
 next {m} {n} {left} {s} {h} {c} {r} {shown} a p =
     let w : World = after step m (calls h) in
@@ -47,12 +48,19 @@ next {m} {n} {left} {s} {h} {c} {r} {shown} a p =
       sound = call-sound (p .answered) (a .sound);
       kernel-is = z .kernel;
       memory-is = z .memory;
-      trace-is = λ i. record { who = a .kernel-is i .running; call = c; answer = z .answer i; shown = bytes-are i } ∷ a .trace-is i;
+      trace-is = λ i. record { who = a .kernel-is i .running; call = c; answer = z .answer i; shown = bytes-are i; aside = false } ∷ a .trace-is i;
     }
 
--- **as-model**: every run of the public functions answers and shows what the model's run does.
-pub as-model : {m n : List ℕ} {s : State} {h : List Event} → Run m s n h → AsModel m s n h
+-- **as-model**: every run of the public functions answers and shows what the model's run does, asides left out.
+pub as-model : {m n : List ℕ} {s : State} {h : List Event} → Run m s n h → AsModel m s n (own-events h)
 unfolding after trace
 as-model {m} (start {s} e) =
     record { sound = subst Sound (sym e) fresh-sound; kernel-is = ap seen e ∙ fresh-seen; memory-is = refl; trace-is = refl }
 as-model (call r p) = next (as-model r) (promised p)
+as-model (aside r p e) = as-model r
+
+-- **asides-refused**: and every aside is a refusal.
+pub asides-refused : {m n : List ℕ} {s : State} {h : List Event} → Run m s n h → AsidesRefused h
+asides-refused (start e) = tt
+asides-refused (call r p) = (λ a. absurd (false≢true a), asides-refused r)
+asides-refused (aside r p e) = (λ a. ap (λ (x : Said). not (x .refusal)) e, asides-refused r)

@@ -4,9 +4,9 @@ use mathlib.Core.List.{List}
 use mathlib.Core.Option.{Option}
 use Prim.Native.Nat.{ℕ}
 use lib.IntN.{ℤ}
-use Rattle.kernel.specs.declared.Answer.the-variants.{Refused}
 use Rattle.kernel.specs.declared.State.{State}
 use Rattle.kernel.specs.declared.Reply.{Reply}
+use Rattle.kernel.specs.Answer.{refused, said}
 use Rattle.kernel.specs.Calls.{Call}
 use Rattle.kernel.specs.Refusals.{table}
 use Rattle.kernel.specs.Promise.{Given}
@@ -25,15 +25,15 @@ always-answers s m c = let g = every-call s m c in record { given = g; only = λ
 
 module _ {s : State} {m : List ℕ} {c : Call} {r : Reply} {left : List ℕ} {shown : Option (List ℕ)} (p : Made s m r c left shown) where
   -- **refused-unchanged**: refused, neither state nor memory has changed by one byte.
-  pub refused-unchanged : (x : ℤ) → r .answer ≡ Refused x → (r .state ≡ s) × (left ≡ m)
+  pub refused-unchanged : (x : ℤ) → said (r .answer) ≡ refused x → (r .state ≡ s) × (left ≡ m)
   refused-unchanged x e =
       let q = promised p in
       let u = Answers.refused-unchanged (q .answered) x e in
       (u .0, u .1 ∙ q .lent)
 
   -- **refused-listed**: the number is one of the document's list.
-  pub refused-listed : (x : ℤ) → r .answer ≡ Refused x → OneOf x table
+  pub refused-listed : (x : ℤ) → said (r .answer) ≡ refused x → OneOf x table
   refused-listed x e =
       let q = promised p in
       let a = Always.always-answers c s (q .loan) in
-      a .listed x (sym (ap (λ (g : Given). g .reply .answer) (a .only _ (q .answered))) ∙ e)
+      a .listed x (sym (ap (λ (g : Given). said (g .reply .answer)) (a .only _ (q .answered))) ∙ e)

@@ -8,7 +8,7 @@ use Rattle.kernel.specs.declared.Stop.{Stop}
 use Rattle.kernel.specs.declared.Stop.the-variants.{Going}
 use Rattle.kernel.specs.declared.State.{State}
 use Rattle.kernel.specs.declared.Reply.{Reply}
-use Rattle.kernel.specs.Calls.{tick}
+use Rattle.kernel.specs.Calls.{tick, verb}
 use Rattle.kernel.specs.Seen.{seen}
 use Rattle.kernel.specs.Sound.{Sound}
 use Rattle.laws_promises.specs.Stops.{Reason, StopOnly}
@@ -16,7 +16,7 @@ use Rattle.laws_promises.proofs.Stops as Stops
 use Rattle.laws_demands.specs.Functions.{Made}
 use Rattle.laws_demands.proofs.Functions.{promised}
 
-module _ {s : State} {m : List ℕ} {r : Reply} {left : List ℕ} {shown : Option (List ℕ)} (p : Made s m r tick left shown) (going : s .stop ≡ Going) where
+module _ {s : State} {m : List ℕ} {r : Reply} {left : List ℕ} {shown : Option (List ℕ)} (p : Made s m r (verb tick) left shown) (going : s .stop ≡ Going) where
   -- **stops-exactly**: a tick on a sound state stops, or goes on, exactly where document 01 says so.
   pub stops-exactly : Sound s → (w : Stop) → (r .state .stop ≡ w) ↔ Reason (seen s) w
   stops-exactly = Stops.stops-exactly (promised p .answered) going

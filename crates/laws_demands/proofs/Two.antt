@@ -7,9 +7,9 @@ use mathlib.Core.List.{List}
 use mathlib.Core.Option.{Option, none, some}
 use Prim.Native.Nat.{ℕ}
 use lib.IntN.{ℤ}
-use Rattle.kernel.specs.declared.Answer.the-variants.{Refused}
 use Rattle.kernel.specs.declared.State.{State}
 use Rattle.kernel.specs.declared.Reply.{Reply}
+use Rattle.kernel.specs.Answer.{refused, said}
 use Rattle.kernel.specs.Calls.{Call, effect}
 use Rattle.kernel.specs.Refusals.{first, rows}
 use Rattle.kernel.specs.Seen.{seen}
@@ -38,10 +38,10 @@ run-earliest r = earliest-first (run-sound r)
 -- In a run, so on a sound state:
 module _ {s : State} {m : List ℕ} {c : Call} {r : Reply} {left : List ℕ} {shown : Option (List ℕ)} (sound : Sound s) (p : Made s m r c left shown) where
   -- **refused-exactly**: a call is refused with x exactly where row x is the first of the table that applies.
-  pub refused-exactly : (x : ℤ) → (r .answer ≡ Refused x) ↔ (first (rows c (handed true s m)) ≡ some x)
+  pub refused-exactly : (x : ℤ) → (said (r .answer) ≡ refused x) ↔ (first (rows c (handed true s m)) ≡ some x)
   refused-exactly x =
       let q = promised p in
-      subst (λ (y : List ℕ). (r .answer ≡ Refused x) ↔ (first (rows c (handed true s y)) ≡ some x)) (q .lent) (Answers.refused-exactly (q .answered) true (truly sound) x)
+      subst (λ (y : List ℕ). (said (r .answer) ≡ refused x) ↔ (first (rows c (handed true s y)) ≡ some x)) (q .lent) (Answers.refused-exactly (q .answered) true (truly sound) x)
 
   -- **takes-effect**: a legal call takes effect.
   pub takes-effect : first (rows c (handed true s m)) ≡ none → Took s m r c left shown

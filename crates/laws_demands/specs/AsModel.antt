@@ -14,7 +14,8 @@ use Rattle.laws_runs.specs.Run.{after, trace}
 abbrev pub calls : List Event → List Call
 calls = map (λ (e : Event). e .call)
 
--- From the memory m on, the functions have come to state s, memory n and trace h: the state is sound, the kernel that is seen in it and the memory are those of the model behind the same calls, and so is the whole trace: who ran, what was answered, what was shown.
+-- From the memory m on, the functions have come to state s and memory n by the events h, asides left out: the state is sound, the kernel that
+-- is seen in it and the memory are those of the model behind the same calls, and so are the events: who ran, what was answered, what was shown.
 pub record AsModel (m : List ℕ) (s : State) (n : List ℕ) (h : List Event) : Type 0 where
   pub sound : Sound s
   pub kernel-is : seen s ≡ after step m (calls h) .kernel

@@ -14,9 +14,9 @@ use Rattle.kernel.specs.declared.Class.the-variants.{Nrt, Hard}
 use Rattle.kernel.specs.declared.Status.{Status}
 use Rattle.kernel.specs.Sizes.{task-count, semaphore-count, channel-count, main-priority, whole}
 use Rattle.kernel.specs.Status.{FREE, READY, EXE, ZOMBIE, status-number, queue-of, waiters}
-use Rattle.kernel.specs.Kernel.{Bare, Kernel, task, queue, semaphore, session, blank, share-of, with-running, with-share}
+use Rattle.kernel.specs.Kernel.{Bare, Kernel, task, queue, semaphore, session, blank, share-of, with-running, with-total}
 use Rattle.kernel.specs.Moves.{move}
-use Rattle.kernel.specs.Good.{GoodTask, GoodSemaphore, GoodChannel, Fits, Timely, Opens, held-share, shares}
+use Rattle.kernel.specs.Good.{GoodTask, GoodSemaphore, GoodChannel, Fits, Timely, Opens, counted-share, shares}
 use Rattle.kernel.proofs.Moves.{Movable, move-sized, moved-task, kept-task, kept-queue, moved-queues}
 use Rattle.laws_effects.specs.UnderWay.{Ahead, Earliest, Steady}
 use Rattle.laws_effects.proofs.Sessions.{never-open, busy, fewer}
@@ -36,11 +36,11 @@ pub record Change (k : Kernel) (i : ℕ) (a : Bare) (e n : ℕ) : Type 0 where
   pub fits : (i ≡ 0 → ⊥) → Fits (a .class)
   pub timely : Timely (k .clock) (a .class) (status-number (a .status)) (a .deadline)
   pub asks : Asks k i (a .class) (a .deadline) (a .status)
-  pub share : n + held-share (task k i) ≡ k .share + held-share a
+  pub share : n + counted-share (task k i) ≡ k .total + counted-share a
   pub share-fits : n ≤ whole
 
 -- The sum of the shares, once one record is another.
-pub shares-set : (ts : List Bare) (i : ℕ) (a : Bare) → i < length ts → shares (set ts i a) + held-share (getD ts i blank) ≡ shares ts + held-share a
+shares-set : (ts : List Bare) (i : ℕ) (a : Bare) → i < length ts → shares (set ts i a) + counted-share (getD ts i blank) ≡ shares ts + counted-share a
 shares-set [] i a l = absurd (omega arith)
 shares-set (t ∷ ts) zero a l = omega arith
 shares-set (t ∷ ts) (suc i) a l = omega (arith, shares-set ts i a (omega arith))
@@ -69,7 +69,7 @@ still-earliest {k} s first i a l not-exe not-ready =
 -- **changed**: the kernel stays steady.
 module _ {k : Kernel} {i : ℕ} {a : Bare} {e n : ℕ} (s : Steady k) (h : Change k i a e n) where
   abbrev j : Kernel
-  j = with-share (with-running (move k i a) e) n
+  j = with-total (with-running (move k i a) e) n
 
   m : Movable k i
   m = movable s i (h .is-task)
@@ -131,13 +131,13 @@ module _ {k : Kernel} {i : ℕ} {a : Bare} {e n : ℕ} (s : Steady k) (h : Chang
         };
         tasks = each (λ (x : ℕ) (r : Bare). x < task-count → GoodTask j x r) m (λ l. own) other;
         queues = moved-queues m a;
-        shared = record { share = omega (arith, s .shared .share, h .share, shares-set (k .tasks) i a (omega (arith, s .sized .tasks, h .is-task))); share-fits = h .share-fits };
+        shared = record { total-is = omega (arith, s .shared .total-is, h .share, shares-set (k .tasks) i a (omega (arith, s .sized .tasks, h .is-task))); total-fits = h .share-fits };
         semaphores = semaphore-good;
         channels = channel-good;
         clocked = record { clock = s .clocked .clock; expired = s .clocked .expired };
-        ahead =
+        runs =
             let t = times k i (a .class) (a .deadline) (a .status) (h .asks) in
-            each (λ (x : ℕ) (r : Bare). x < task-count → Ahead (k .clock) r) m (λ l. (t .1, t .2)) (λ x ne. s .ahead x);
+            each (λ (x : ℕ) (r : Bare). x < task-count → Ahead (k .clock) r) m (λ l. (t .1, t .2)) (λ x ne. s .runs x);
       }
 
 -- ---- who is EXE from then on
@@ -161,18 +161,18 @@ timely-kept : {m n : ℕ} (clock d : ℕ) (c : Class) → (m ≡ FREE → ⊥) �
 timely-kept clock d (Hard p c) um un t = t
 timely-kept clock d (Nrt p) um un t = (λ z. absurd (un z), λ z. t .1 um)
 
-pub held-in-use : (a : Bare) → (status-number (a .status) ≡ FREE → ⊥) → held-share a ≡ share-of (a .class)
-held-in-use a u = rw (ne-eqb (status-number (a .status)) FREE u)
+pub counted-in-use : (a : Bare) → (status-number (a .status) ≡ FREE → ⊥) → counted-share a ≡ share-of (a .class)
+counted-in-use a u = rw (ne-eqb (status-number (a .status)) FREE u)
 
 module _ {k : Kernel} (s : Steady k) (i : ℕ) (l : i < task-count) (used : status-number (task k i .status) ≡ FREE → ⊥) (st : Status) (uses : status-number st ≡ FREE → ⊥) where
   abbrev a : ℕ → Bare
   a d = record { class = task k i .class; status = st; deadline = d }
 
   -- It gets another status and another deadline.
-  pub turned : (d : ℕ) {e : ℕ} → Runner (k .running) i (status-number st) e → Timely (k .clock) (task k i .class) (status-number st) d → Asks k i (task k i .class) d st
+  pub anew : (d : ℕ) {e : ℕ} → Runner (k .running) i (status-number st) e → Timely (k .clock) (task k i .class) (status-number st) d → Asks k i (task k i .class) d st
       → Steady (with-running (move k i (a d)) e)
   unfolding move
-  turned d {e} r t h =
+  anew d {e} r t h =
       let g = s .tasks i l in
       changed s
       (record {
@@ -182,10 +182,10 @@ module _ {k : Kernel} (s : Steady k) (i : ℕ) (l : i < task-count) (used : stat
         fits = g .main-or-sized .fits;
         timely = t;
         asks = h;
-        share = omega (arith, held-in-use (task k i) used, held-in-use (a d) uses);
-        share-fits = s .shared .share-fits;
+        share = omega (arith, counted-in-use (task k i) used, counted-in-use (a d) uses);
+        share-fits = s .shared .total-fits;
       })
 
   -- It keeps its deadline.
   pub restated : {e : ℕ} → Runner (k .running) i (status-number st) e → Asks k i (task k i .class) (task k i .deadline) st → Steady (with-running (move k i (a (task k i .deadline))) e)
-  restated r h = turned (task k i .deadline) r (timely-kept (k .clock) (task k i .deadline) (task k i .class) used uses (s .tasks i l .timely)) h
+  restated r h = anew (task k i .deadline) r (timely-kept (k .clock) (task k i .deadline) (task k i .class) used uses (s .tasks i l .timely)) h

@@ -2,7 +2,7 @@
 use mathlib.Core.Path.{_≡_, refl, ap, _∙_}
 use mathlib.Core.List.{List, [], _∷_}
 use mathlib.Core.Logic.{_⊎_, inl, inr}
-use Prim.Native.Nat.{ℕ, zero, suc, _+_, _≤_, _<_, zero-le}
+use Prim.Native.Nat.{ℕ, zero, suc, _≤_, _<_, zero-le}
 use native.Mathlib.Omega.{arith}
 use lib.ListN.{getD}
 use borrow.Author.Tests.{eq-eqb}
@@ -12,30 +12,30 @@ use Rattle.kernel.specs.declared.Stop.the-variants.{Overrun}
 use Rattle.kernel.specs.declared.Session.{Session}
 use Rattle.kernel.specs.declared.Session.the-variants.{Closed, Write, Reading}
 use Rattle.kernel.specs.Sizes.{task-count}
-use Rattle.kernel.specs.Status.{FREE, READY, EXE, IDLE, ZOMBIE, status-number, queue-of, queue-count, idle, zombie}
-use Rattle.kernel.specs.Kernel.{Bare, Kernel, task, queue, session, blank, period-of, share-of, with-status, with-deadline, with-stop}
+use Rattle.kernel.specs.Status.{FREE, READY, EXE, IDLE, ZOMBIE, status-number, queue-of, queue-count, idle-queue, zombie-queue}
+use Rattle.kernel.specs.Kernel.{Bare, Kernel, task, queue, session, blank, share-of, with-stop, next-period}
 use Rattle.kernel.specs.Moves.{move}
 use Rattle.kernel.specs.Tick.{free, wake}
-use Rattle.kernel.specs.Good.{place, held-share, shares}
+use Rattle.kernel.specs.Good.{standing, counted-share, shares}
 use Rattle.kernel.proofs.Moves.{Movable, kept-queue}
 use Rattle.laws_effects.specs.UnderWay.{Freeing, Steady, Ticking}
 use Rattle.laws_effects.proofs.Standing.{stands}
 use Rattle.laws_effects.proofs.Asks.{Sessionless}
 use Rattle.laws_effects.proofs.Sessions.{busy}
-use Rattle.laws_effects.proofs.Changed.{movable, each, still-earliest, changed, apart, held-in-use, turned}
+use Rattle.laws_effects.proofs.Changed.{movable, each, still-earliest, changed, apart, counted-in-use, anew}
 use Rattle.laws_effects.proofs.Tasks.{renewed}
 use Rattle.laws_effects.proofs.Sweep.{Acts}
 
 -- ---- what a tick finds
 
-held-part : (ts : List Bare) (x : ℕ) → held-share (getD ts x blank) ≤ shares ts
-held-part [] x = zero-le
-held-part (t ∷ ts) zero = omega arith
-held-part (t ∷ ts) (suc x) = omega (arith, held-part ts x)
+counted-part : (ts : List Bare) (x : ℕ) → counted-share (getD ts x blank) ≤ shares ts
+counted-part [] x = zero-le
+counted-part (t ∷ ts) zero = omega arith
+counted-part (t ∷ ts) (suc x) = omega (arith, counted-part ts x)
 
 -- The share of a task in use is part of the total.
-pub share-part : {k : Kernel} → Steady k → (x : ℕ) → (status-number (task k x .status) ≡ FREE → ⊥) → share-of (task k x .class) ≤ k .share
-share-part {k} s x used = omega (arith, held-in-use (task k x) used, s .shared .share, held-part (k .tasks) x)
+pub share-part : {k : Kernel} → Steady k → (x : ℕ) → (status-number (task k x .status) ≡ FREE → ⊥) → share-of (task k x .class) ≤ k .total
+share-part {k} s x used = omega (arith, counted-in-use (task k x) used, s .shared .total-is, counted-part (k .tasks) x)
 
 never-main : {k : Kernel} → Steady k → (x : ℕ) → x < task-count → (status-number (task k x .status) ≡ EXE → ⊥) → (status-number (task k x .status) ≡ READY → ⊥)
     → x ≡ 0 → ⊥
@@ -59,10 +59,6 @@ first-out : {k : Kernel} {x q : ℕ} {xs : List ℕ} → Movable k x → (a : Ba
 first-out {x = x} {q} m a l ne e = kept-queue m a q l ne ∙ ap (remove x) e ∙ rw (eq-eqb x x refl) refl
 
 -- ---- what a tick does
-
--- The record of a task that wakes.
-abbrev pub awake : Bare → Bare
-awake a = with-status (with-deadline a (a .deadline + period-of (a .class))) Ready
 
 module _ {k : Kernel} (t : Ticking k) (x : ℕ) (l : x < task-count) where
   s : Steady (with-stop k Overrun)
@@ -89,8 +85,8 @@ module _ {k : Kernel} (t : Ticking k) (x : ℕ) (l : x < task-count) where
               fits = λ z. omega arith;
               timely = (λ z. refl, λ z. absurd (z refl));
               asks = (other, refl, zombie-closed s x l e);
-              share = omega (arith, share-part s x (omega arith), held-in-use (task k x) (omega arith));
-              share-fits = omega (arith, s .shared .share-fits);
+              share = omega (arith, share-part s x (omega arith), counted-in-use (task k x) (omega arith));
+              share-fits = omega (arith, s .shared .total-fits);
             });
         idle = idle-kept blank (omega arith);
         going = t .going;
@@ -103,29 +99,29 @@ module _ {k : Kernel} (t : Ticking k) (x : ℕ) (l : x < task-count) where
       let a = task k x in
       let hard = s .tasks x l .suited .idle-hard e in
       record {
-        steady = turned s x l (omega arith) Ready (omega arith) (awake a .deadline) (apart s x l (omega arith) (omega arith))
+        steady = anew s x l (omega arith) Ready (omega arith) (next-period a .deadline) (apart s x l (omega arith) (omega arith))
             (renewed (k .clock) (a .deadline) (a .class) hard due) (omega (arith, t .idle x l e));
-        idle = idle-kept (awake a) (omega arith);
+        idle = idle-kept (next-period a) (omega arith);
         going = t .going;
         running = t .running;
       }
 
 -- ---- the sweeps
 
-first-in : {k : Kernel} {x q : ℕ} {xs : List ℕ} → Ticking k → q < queue-count → queue k q ≡ x ∷ xs → (x < task-count) × (place k x ≡ q)
+first-in : {k : Kernel} {x q : ℕ} {xs : List ℕ} → Ticking k → q < queue-count → queue k q ≡ x ∷ xs → (x < task-count) × (standing k x ≡ q)
 first-in {q = q} t l e = (rw e at (t .steady .queues q l .only)) .0
 
-pub first-zombie : {k : Kernel} {x : ℕ} {xs : List ℕ} → Ticking k → queue k zombie ≡ x ∷ xs → (x < task-count) × (status-number (task k x .status) ≡ ZOMBIE)
+pub first-zombie : {k : Kernel} {x : ℕ} {xs : List ℕ} → Ticking k → queue k zombie-queue ≡ x ∷ xs → (x < task-count) × (status-number (task k x .status) ≡ ZOMBIE)
 first-zombie {k} {x} t e = let i = first-in t (omega arith) e in (i .0, stands (task k x .status) .in-zombie .1 (i .1))
 
-pub first-idle : {k : Kernel} {x : ℕ} {xs : List ℕ} → Ticking k → queue k idle ≡ x ∷ xs → (x < task-count) × (status-number (task k x .status) ≡ IDLE)
+pub first-idle : {k : Kernel} {x : ℕ} {xs : List ℕ} → Ticking k → queue k idle-queue ≡ x ∷ xs → (x < task-count) × (status-number (task k x .status) ≡ IDLE)
 first-idle {k} {x} t e = let i = first-in t (omega arith) e in (i .0, stands (task k x .status) .in-idle .1 (i .1))
 
-pub frees : Acts Freeing free zombie
+pub frees : Acts Freeing free zombie-queue
 unfolding move free
 frees =
     record {
-      rising = λ p. p .0 .steady .queues zombie (omega arith) .rising;
+      rising = λ p. p .0 .steady .queues zombie-queue (omega arith) .rising;
       acts = λ {k} {x} p e due.
           let t = p .0 in
           let i = first-zombie t e in
@@ -135,12 +131,12 @@ frees =
           );
     }
 
-pub wakes : Acts Ticking wake idle
+pub wakes : Acts Ticking wake idle-queue
 unfolding move wake
 wakes =
     record {
-      rising = λ t. t .steady .queues idle (omega arith) .rising;
+      rising = λ t. t .steady .queues idle-queue (omega arith) .rising;
       acts = λ {k} {x} t e due.
           let i = first-idle t e in
-          (woken t x (i .0) (i .1) due, first-out (movable (t .steady) x (i .0)) (awake (task k x)) (omega arith) (omega arith) e);
+          (woken t x (i .0) (i .1) due, first-out (movable (t .steady) x (i .0)) (next-period (task k x)) (omega arith) (omega arith) e);
     }

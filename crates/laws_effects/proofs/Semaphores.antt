@@ -18,7 +18,7 @@ use Rattle.kernel.specs.Status.{queue-of, waiters, stop-number}
 use Rattle.kernel.specs.Kernel.{Kernel, task, queue, semaphore, unused-semaphore, hard, with-status, with-semaphore}
 use Rattle.kernel.specs.Moves.{move, dispatch}
 use Rattle.kernel.specs.Semaphores.{counting, lowest-semaphore, new-semaphore, delete, wait, signal-to, signal}
-use Rattle.kernel.specs.Good.{Good, GoodSemaphore, Counted, place}
+use Rattle.kernel.specs.Good.{Good, GoodSemaphore, Counted, standing}
 use Rattle.kernel.proofs.Decided.{unless}
 use Rattle.kernel.proofs.Deadlines.{nrt-late}
 use Rattle.kernel.proofs.Lowest.{found}
@@ -50,7 +50,7 @@ module _ {k : Kernel} (s : Steady k) (q : ℕ) (a : Semaphore) (l : q < semaphor
       → semaphore j (w .0) .used ≡ true
   still-used x lx w z u (yes e) = rw (e, here) (unless (λ none. rw (c .unused-waiters none) at (s .queues (waiters q) (omega arith) .all x lx stood)))
     where
-      stood : place k x ≡ waiters q
+      stood : standing k x ≡ waiters q
       stood = ap queue-of z ∙ waits-at (w .0) (omega arith) ∙ ap waiters e
   still-used x lx w z u (no ne) = rw (there (w .0) ne) u
 
@@ -66,11 +66,11 @@ module _ {k : Kernel} (s : Steady k) (q : ℕ) (a : Semaphore) (l : q < semaphor
         };
         tasks = λ x lx. task-kept refl refl Iff·rfl (λ w z u. still-used x lx w z u (ℕ-discrete (w .0) q)) (s .tasks x lx);
         queues = s .queues;
-        shared = record { share = s .shared .share; share-fits = s .shared .share-fits };
+        shared = record { total-is = s .shared .total-is; total-fits = s .shared .total-fits };
         semaphores = λ p lp. counted p lp (ℕ-discrete p q);
         channels = λ c lc. fewer (record { channel-is = refl; session-is = λ t lt. inl refl; in-use = busy (s .channels c lc) }) (s .channels c lc);
         clocked = record { clock = s .clocked .clock; expired = s .clocked .expired };
-        ahead = s .ahead;
+        runs = s .runs;
       }
 
 -- A used semaphore with a count that fits, which has no waiters if the count is above 0.

@@ -81,7 +81,7 @@ fewer {j} {k} {c} f g =
 -- The kernel with these channels and these sessions.
 abbrev pub with-channels : Kernel → List Channel → List Slot → Kernel
 with-channels k hs zs =
-    record { clock = k .clock; stop = k .stop; running = k .running; share = k .share; tasks = k .tasks; queues = k .queues; semaphores = k .semaphores; channels = hs; sessions = zs }
+    record { clock = k .clock; stop = k .stop; running = k .running; total = k .total; tasks = k .tasks; queues = k .queues; semaphores = k .semaphores; channels = hs; sessions = zs }
 
 -- Where each channel is good, nothing else is asked.
 pub channels-steady : {k : Kernel} → Steady k → (hs : List Channel) (zs : List Slot) → length hs ≡ channel-count → length zs ≡ task-count * channel-count
@@ -91,11 +91,11 @@ channels-steady s hs zs channels sessions each =
       sized = record { tasks = s .sized .tasks; queues = s .sized .queues; semaphores = s .sized .semaphores; channels = channels; sessions = sessions };
       tasks = λ x l. task-kept refl refl Iff·rfl (λ q z u. u) (s .tasks x l);
       queues = s .queues;
-      shared = record { share = s .shared .share; share-fits = s .shared .share-fits };
+      shared = record { total-is = s .shared .total-is; total-fits = s .shared .total-fits };
       semaphores = s .semaphores;
       channels = each;
       clocked = record { clock = s .clocked .clock; expired = s .clocked .expired };
-      ahead = s .ahead;
+      runs = s .runs;
     }
 
 -- ---- the sessions of one task are closed

@@ -6,26 +6,25 @@ use mathlib.Core.Logic.{_⊎_, inl, inr}
 use Prim.Native.Nat.{ℕ, _≤_, _<_}
 use native.Mathlib.Omega.{arith}
 use Rattle.laws_chain.specs.Lists.{All, Among, Rising}
-use Rattle.laws_chain.specs.Filing.{Queue}
 use Rattle.laws_chain.proofs.Lists.{all-among}
 use Rattle.kernel.specs.Sizes.{task-count}
-use Rattle.kernel.specs.Status.{READY, EXE, status-number, queue-count, ready, stop-number}
+use Rattle.kernel.specs.Status.{READY, EXE, status-number, ready-queue, stop-number}
 use Rattle.kernel.specs.Kernel.{Kernel, task, queue, hard}
-use Rattle.kernel.specs.Good.{Good, GoodTask, NoLater, place, deadline-of}
+use Rattle.kernel.specs.Good.{Good, GoodTask, NoLater, standing, deadline-of, Queued}
 use Rattle.kernel.proofs.Deadlines.{nrt-late}
 use Rattle.laws_effects.specs.UnderWay.{Earliest, Steady}
 use Rattle.laws_effects.proofs.Standing.{stands}
 
 -- ---- the ready queue
 
-module _ (k : Kernel) (queues : (q : ℕ) → q < queue-count → Queue task-count (place k) (deadline-of k) q (queue k q)) where
+module _ (k : Kernel) (queues : Queued k) where
   -- A READY task stands in it.
-  ready-among : (x : ℕ) → x < task-count → status-number (task k x .status) ≡ READY → Among x (queue k ready)
-  ready-among x l e = queues ready (omega arith) .all x l (stands (task k x .status) .in-ready .0 e)
+  ready-among : (x : ℕ) → x < task-count → status-number (task k x .status) ≡ READY → Among x (queue k ready-queue)
+  ready-among x l e = queues ready-queue (omega arith) .all x l (stands (task k x .status) .in-ready .0 e)
 
   -- A deadline no later than that of the first is no later than that of any READY task.
-  pub no-later : {d : ℕ} → NoLater k d (queue k ready) → (x : ℕ) → x < task-count → status-number (task k x .status) ≡ READY → d ≤ task k x .deadline
-  no-later {d} n x l e = go (queue k ready) n (queues ready (omega arith) .rising) (ready-among x l e)
+  pub no-later : {d : ℕ} → NoLater k d (queue k ready-queue) → (x : ℕ) → x < task-count → status-number (task k x .status) ≡ READY → d ≤ task k x .deadline
+  no-later {d} n x l e = go (queue k ready-queue) n (queues ready-queue (omega arith) .rising) (ready-among x l e)
     where
       go : (xs : List ℕ) → NoLater k d xs → Rising (deadline-of k) xs → Among x xs → d ≤ task k x .deadline
       go [] n r m = absurd m
@@ -33,10 +32,10 @@ module _ (k : Kernel) (queues : (q : ℕ) → q < queue-count → Queue task-cou
       go (y ∷ ys) n r (inr m) = omega (arith, all-among (λ (z : ℕ). deadline-of k y ≤ deadline-of k z) x ys (r .0) m)
 
   -- And the other way round.
-  pub first-later : {d : ℕ} → ((x : ℕ) → x < task-count → status-number (task k x .status) ≡ READY → d ≤ task k x .deadline) → NoLater k d (queue k ready)
-  first-later {d} f = go (queue k ready) (queues ready (omega arith) .only)
+  pub first-later : {d : ℕ} → ((x : ℕ) → x < task-count → status-number (task k x .status) ≡ READY → d ≤ task k x .deadline) → NoLater k d (queue k ready-queue)
+  first-later {d} f = go (queue k ready-queue) (queues ready-queue (omega arith) .only)
     where
-      go : (xs : List ℕ) → All (λ (x : ℕ). (x < task-count) × (place k x ≡ ready)) xs → NoLater k d xs
+      go : (xs : List ℕ) → All (λ (x : ℕ). (x < task-count) × (standing k x ≡ ready-queue)) xs → NoLater k d xs
       go [] a = tt
       go (x ∷ xs) a = f x (a .0 .0) (stands (task k x .status) .in-ready .1 (a .0 .1))
 
@@ -58,7 +57,7 @@ module _ {k : Kernel} (g : Good k) where
         semaphores = g .semaphores;
         channels = g .channels;
         clocked = g .clocked;
-        ahead = λ x l. (λ e. omega (arith, earliest x l e), λ e. rw (g .tasks x l .exe .0 e) runs);
+        runs = λ x l. (λ e. omega (arith, earliest x l e), λ e. rw (g .tasks x l .exe .0 e) runs);
       }
     where
       go : (b : Bool) → hard (task k (k .running) .class) ≡ b → k .clock ≤ task k (k .running) .deadline
@@ -80,7 +79,7 @@ good {k} s l e =
     record {
       sized = s .sized;
       tasks = s .tasks;
-      runs = record { running = l; earliest = first-later k (s .queues) e; in-time = λ going h. s .ahead (k .running) l .1 (exe s l) };
+      runs = record { running = l; earliest = first-later k (s .queues) e; in-time = λ going h. s .runs (k .running) l .1 (exe s l) };
       queues = s .queues;
       shared = s .shared;
       semaphores = s .semaphores;
@@ -89,7 +88,7 @@ good {k} s l e =
     }
 
 -- Unless task 0 runs it is READY, so there is a first ready task.
-pub main-ready : {k : Kernel} → Steady k → (k .running ≡ 0 → ⊥) → queue k ready ≡ [] → ⊥
+pub main-ready : {k : Kernel} → Steady k → (k .running ≡ 0 → ⊥) → queue k ready-queue ≡ [] → ⊥
 main-ready {k} s other none = go (main .main-or-sized .main-status refl)
   where
     main : GoodTask k 0 (task k 0)

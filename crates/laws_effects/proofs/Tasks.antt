@@ -11,7 +11,7 @@ use Rattle.kernel.specs.declared.Class.the-variants.{Nrt, Hard}
 use Rattle.kernel.specs.declared.Status.the-variants.{Sleep, Ready, Idle, Zombie}
 use Rattle.kernel.specs.Sizes.{task-count, channel-count, lifetime, whole}
 use Rattle.kernel.specs.Status.{FREE, READY, EXE, SLEEP, status-number, stop-number}
-use Rattle.kernel.specs.Kernel.{Bare, Kernel, task, hard, period-of, share-of, is, with-status, with-deadline, with-running, with-sessions}
+use Rattle.kernel.specs.Kernel.{Bare, Kernel, task, hard, period-of, share-of, is, with-status, with-running, with-sessions, next-period}
 use Rattle.kernel.specs.Moves.{move, dispatch}
 use Rattle.kernel.specs.Tasks.{lowest-free, first-deadline, create, release, activate, sleep, cycle, ended, close-sessions, finish, end, kill}
 use Rattle.kernel.specs.Good.{Good, Fits, Timely}
@@ -19,7 +19,7 @@ use Rattle.kernel.proofs.Lowest.{found}
 use Rattle.laws_effects.specs.UnderWay.{Steady}
 use Rattle.laws_effects.proofs.Steady.{earliest, steady, exe, good}
 use Rattle.laws_effects.proofs.Sessions.{sessions-closed, closed-steady}
-use Rattle.laws_effects.proofs.Changed.{Runner, still-earliest, changed, apart, leaves, held-in-use, turned, restated}
+use Rattle.laws_effects.proofs.Changed.{Runner, still-earliest, changed, apart, leaves, counted-in-use, anew, restated}
 use Rattle.laws_effects.proofs.Processor.{dispatched, gives-way, scheduled}
 
 -- ---- deadlines, by class
@@ -56,7 +56,7 @@ module _ {k : Kernel} (g : Good k) (going : stop-number (k .stop) ≡ 0) where
   in-use : status-number (own .status) ≡ FREE → ⊥
   in-use z = let e = exe s runs in omega arith
 
-  pub create-good : (c : Class) → Fits c → (lowest-free k ≡ task-count → ⊥) → k .share + share-of c ≤ whole → Good (create c k)
+  pub create-good : (c : Class) → Fits c → (lowest-free k ≡ task-count → ⊥) → k .total + share-of c ≤ whole → Good (create c k)
   unfolding move create lowest-free
   create-good c f some l =
       let i = lowest-free k in
@@ -86,7 +86,7 @@ module _ {k : Kernel} (g : Good k) (going : stop-number (k .stop) ≡ 0) where
   unfolding move activate
   activate-good n l e =
       let r = released (k .clock) (task k n .deadline) (task k n .class) (g .clocked .clock) (omega arith) (g .tasks n l .timely) in
-      scheduled (turned s n l (omega arith) Ready (omega arith) (release (task k n .class) (k .clock) (task k n .deadline)) (apart s n l (omega arith) (omega arith)) (r .0) (r .1)) runs
+      scheduled (anew s n l (omega arith) Ready (omega arith) (release (task k n .class) (k .clock) (task k n .deadline)) (apart s n l (omega arith) (omega arith)) (r .0) (r .1)) runs
 
   pub sleep-good : (k .running ≡ 0 → ⊥) → Good (sleep k)
   unfolding sleep
@@ -97,12 +97,12 @@ module _ {k : Kernel} (g : Good k) (going : stop-number (k .stop) ≡ 0) where
   cycle-good ne h = go (ltb (k .clock) (own .deadline)) refl
     where
       go : (b : Bool) → ltb (k .clock) (own .deadline) ≡ b
-          → Good (dispatch (move k (k .running) (cond b (with-status own Idle) (with-status (with-deadline own (own .deadline + period-of (own .class))) Ready))))
+          → Good (dispatch (move k (k .running) (cond b (with-status own Idle) (next-period own))))
       go true z = gives-way s runs Idle (omega arith) (omega arith) (ne, h, ltb-true (k .clock) (own .deadline) z)
       go false z =
           let due = ltb-false (k .clock) (own .deadline) z in
-          dispatched _ (turned s (k .running) runs in-use Ready (omega arith) (own .deadline + period-of (own .class)) (leaves runs (omega arith))
-          (renewed (k .clock) (own .deadline) (own .class) h due) (omega (arith, s .ahead (k .running) runs .1 (exe s runs))))
+          dispatched _ (anew s (k .running) runs in-use Ready (omega arith) (own .deadline + period-of (own .class)) (leaves runs (omega arith))
+          (renewed (k .clock) (own .deadline) (own .class) h due) (omega (arith, s .runs (k .running) runs .1 (exe s runs))))
 
   -- A task in use that is not the main one is finished, and e is the EXE one from then on.
   finished : (n : ℕ) {e : ℕ} → n < task-count → (n ≡ 0 → ⊥) → (status-number (task k n .status) ≡ FREE → ⊥) → ((m : ℕ) → (m ≡ EXE → ⊥) → Runner (k .running) n m e)
@@ -121,8 +121,8 @@ module _ {k : Kernel} (g : Good k) (going : stop-number (k .stop) ≡ 0) where
             fits = λ w. omega arith;
             timely = (λ w. refl, λ w. absurd (w refl));
             asks = (ne, refl, sessions-closed k n);
-            share = omega (arith, held-in-use (task k n) used, ap share-of z);
-            share-fits = g .shared .share-fits;
+            share = omega (arith, counted-in-use (task k n) used, ap share-of z);
+            share-fits = g .shared .total-fits;
           })
 
   pub end-good : (k .running ≡ 0 → ⊥) → Good (end k)

@@ -7,7 +7,7 @@ use lib.Dec.{eqb}
 use borrow.Author.Tests.{eqb-true, eqb-false}
 use Rattle.kernel.specs.declared.Stop.the-variants.{Overrun, Lifetime}
 use Rattle.kernel.specs.Sizes.{lifetime}
-use Rattle.kernel.specs.Status.{idle, zombie, stop-number}
+use Rattle.kernel.specs.Status.{idle-queue, zombie-queue, stop-number}
 use Rattle.kernel.specs.Kernel.{Kernel, queue, with-clock, with-stop}
 use Rattle.kernel.specs.Moves.{schedule}
 use Rattle.kernel.specs.Tick.{wake, any-due, free-zombies, wake-idle, overrun, tick}
@@ -23,13 +23,13 @@ use Rattle.laws_effects.proofs.Due.{frees, wakes}
 -- Where none wakes the running task is still the earliest; else there is a schedule.
 wake-idle-good : {k : Kernel} → Freeing k → Good (wake-idle k)
 unfolding wake-idle
-wake-idle-good {k} p = go (any-due k (queue k idle)) refl
+wake-idle-good {k} p = go (any-due k (queue k idle-queue)) refl
   where
-    go : (b : Bool) → any-due k (queue k idle) ≡ b → Good (cond b (schedule (swept wake idle k)) (swept wake idle k))
-    go true e = let w = all-swept wakes k (queue k idle) (p .0) refl in scheduled (goes-on (w .0) (w .1)) (w .0 .running)
+    go : (b : Bool) → any-due k (queue k idle-queue) ≡ b → Good (cond b (schedule (swept wake idle-queue k)) (swept wake idle-queue k))
+    go true e = let w = all-swept wakes k (queue k idle-queue) (p .0) refl in scheduled (goes-on (w .0) (w .1)) (w .0 .running)
     go false e =
-        let none = none-any k (queue k idle) e in
-        subst Good (sym (sweep-none k wake (queue k idle) none)) (good (goes-on (p .0) none) (p .0 .running) (p .1))
+        let none = none-any k (queue k idle-queue) e in
+        subst Good (sym (sweep-none k wake (queue k idle-queue) none)) (good (goes-on (p .0) none) (p .0 .running) (p .1))
 
 -- **ticked**: a tick keeps the kernel good, whether it stops it or not.
 module _ {k : Kernel} (g : Good k) (going : stop-number (k .stop) ≡ 0) where
@@ -39,7 +39,7 @@ module _ {k : Kernel} (g : Good k) (going : stop-number (k .stop) ≡ 0) where
   goes : (b : Bool) → overrun j ≡ b → k .clock + 1 < lifetime → Good (cond b (with-stop j Overrun) (wake-idle (free-zombies j)))
   unfolding free-zombies
   goes true e l = stopped k (k .clock + 1) Overrun (omega arith) (omega arith) (omega arith) (omega arith) g
-  goes false e l = wake-idle-good (all-swept frees j (queue j zombie) (begins g going l e, earliest g) refl .0)
+  goes false e l = wake-idle-good (all-swept frees j (queue j zombie-queue) (begins g going l e, earliest g) refl .0)
 
   lives : (b : Bool) → eqb (k .clock + 1) lifetime ≡ b → Good (cond b (with-stop j Lifetime) (cond (overrun j) (with-stop j Overrun) (wake-idle (free-zombies j))))
   lives true e = let z = eqb-true (k .clock + 1) lifetime e in stopped k (k .clock + 1) Lifetime (omega arith) (omega arith) (omega arith) (omega arith) g

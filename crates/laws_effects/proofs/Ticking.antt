@@ -11,7 +11,7 @@ use Rattle.kernel.specs.declared.Class.the-variants.{Nrt, Hard}
 use Rattle.kernel.specs.declared.Stop.{Stop}
 use Rattle.kernel.specs.declared.Stop.the-variants.{Overrun}
 use Rattle.kernel.specs.Sizes.{task-count, lifetime}
-use Rattle.kernel.specs.Status.{IDLE, status-number, idle, stop-number}
+use Rattle.kernel.specs.Status.{IDLE, status-number, idle-queue, stop-number}
 use Rattle.kernel.specs.Kernel.{Bare, Kernel, task, queue, with-clock, with-stop}
 use Rattle.kernel.specs.Tick.{overrun}
 use Rattle.kernel.specs.Good.{Good, GoodTask, GoodChannel, Sized, Shared, Timely, IdleAhead}
@@ -35,7 +35,7 @@ module _ (k : Kernel) (n : ℕ) (w : Stop) where
   sized s = record { tasks = s .tasks; queues = s .queues; semaphores = s .semaphores; channels = s .channels; sessions = s .sessions }
 
   shared : Shared k → Shared then
-  shared s = record { share = s .share; share-fits = s .share-fits }
+  shared s = record { total-is = s .total-is; total-fits = s .total-fits }
 
   channel-good : {c : ℕ} → GoodChannel k c → GoodChannel then c
   channel-good g = fewer (record { channel-is = refl; session-is = λ t l. inl refl; in-use = busy g }) g
@@ -78,7 +78,7 @@ begins {k} g going l e =
     }
 
 -- It ends: no IDLE task is due.
-pub goes-on : {k : Kernel} → Ticking k → NoneDue k (queue k idle) → Steady k
+pub goes-on : {k : Kernel} → Ticking k → NoneDue k (queue k idle-queue) → Steady k
 goes-on {k} t none =
     let s = t .steady in
     let going = t .going in
@@ -90,10 +90,10 @@ goes-on {k} t none =
       semaphores = s .semaphores;
       channels = λ c lc. channel-good (with-stop k Overrun) (k .clock) (k .stop) (s .channels c lc);
       clocked = record { clock = s .clocked .clock; expired = (λ z. absurd (omega (arith, s .clocked .expired .0 z)), λ z. omega arith) };
-      ahead = s .ahead;
+      runs = s .runs;
     }
   where
     ahead : (x : ℕ) → x < task-count → status-number (task k x .status) ≡ IDLE → k .clock < task k x .deadline
     ahead x l i =
-        let stood = t .steady .queues idle (omega arith) .all x l (stands (task k x .status) .in-idle .0 i) in
-        all-among (λ (y : ℕ). k .clock < task k y .deadline) x (queue k idle) none stood
+        let stood = t .steady .queues idle-queue (omega arith) .all x l (stands (task k x .status) .in-idle .0 i) in
+        all-among (λ (y : ℕ). k .clock < task k y .deadline) x (queue k idle-queue) none stood

@@ -1,12 +1,11 @@
 -- What the promise of a call says, over all calls. Assumes nothing.
 use mathlib.Core.Path.{_≡_, refl, ap, sym, subst, _∙_}
-use mathlib.Core.Bool.{Bool, true, false, false≢true}
+use mathlib.Core.Bool.{Bool, true, false}
 use mathlib.Core.Logic.{_↔_}
 use mathlib.Core.Option.{Option, none, some}
 use lib.IntN.{ℤ}
-use Rattle.kernel.specs.declared.Answer.the-variants.{Done, Refused}
 use Rattle.kernel.specs.declared.State.{State}
-use Rattle.kernel.specs.Answer.{is-refusal, number}
+use Rattle.kernel.specs.Answer.{Said, refused, said}
 use Rattle.kernel.specs.Calls.{Call, effect}
 use Rattle.kernel.specs.Refusals.{first, table, rows}
 use Rattle.kernel.specs.Step.{by-table, step}
@@ -14,19 +13,14 @@ use Rattle.kernel.specs.Seen.{seen}
 use Rattle.kernel.specs.Good.{Good}
 use Rattle.kernel.specs.Sound.{Sound}
 use Rattle.kernel.specs.Promise.{handed, Loan, Given, Gives, Answered}
+use Rattle.kernel.proofs.Said.{same-answer, done-refused}
 use Rattle.kernel.proofs.Refusals.{Each, listed}
-use Rattle.kernel.proofs.Rows.{not-none, held}
+use Rattle.kernel.proofs.Rows.{not-none, number-or}
 use Rattle.kernel.proofs.Decided.{yes as truly}
 use Rattle.kernel.proofs.Allowed.{allowed}
 use Rattle.laws_effects.proofs.Effects.{effect-good}
 use Rattle.queues.proofs.Determined.{shows-once}
 use Rattle.laws_promises.specs.Outcome.{TookEffect}
-
--- ---- answers
-
--- A refusal is no success, and has one number.
-pub done-refused : {v x : ℤ} → Done v ≡ Refused x → ⊥
-done-refused e = false≢true (ap is-refusal e)
 
 -- Two that say truly whether the same holds say the same.
 one-truth : {P : Type 0} (a b : Bool) → (a ≡ true) ↔ P → (b ≡ true) ↔ P → a ≡ b
@@ -57,19 +51,19 @@ module _ {c : Call} {s : State} {l : Loan} {g : Given} (a : Answered c s l g) wh
   by b d = subst (λ (t : Bool). By c s l g t (says c s l t)) (one-truth (a .sound) b (a .decided) d) (a .gives)
 
   -- **refused-exactly**: a call is refused with x exactly where row x is the first of the table that applies.
-  pub refused-exactly : (b : Bool) → (b ≡ true) ↔ Sound s → (x : ℤ) → (g .reply .answer ≡ Refused x) ↔ (says c s l b ≡ some x)
+  pub refused-exactly : (b : Bool) → (b ≡ true) ↔ Sound s → (x : ℤ) → (said (g .reply .answer) ≡ refused x) ↔ (says c s l b ≡ some x)
   refused-exactly b d x = go (says c s l b) (by b d)
     where
-      go : (o : Option ℤ) → By c s l g b o → (g .reply .answer ≡ Refused x) ↔ (o ≡ some x)
+      go : (o : Option ℤ) → By c s l g b o → (said (g .reply .answer) ≡ refused x) ↔ (o ≡ some x)
       go none h = (λ e. absurd (done-refused (sym (h .answer) ∙ e)), λ e. absurd (not-none (sym e)))
-      go (some y) h = (λ e. ap some (ap number (sym (h .answer) ∙ e)), λ e. h .answer ∙ ap Refused (ap (held y) e))
+      go (some y) h = (λ e. ap some (ap (λ (y : Said). y .number) (sym (h .answer) ∙ e)), λ e. h .answer ∙ ap refused (ap (number-or y) e))
 
   -- **refused-listed**: its number is one of the document's list, so that what is true of all of those is true of it.
-  pub refused-listed : (P : ℤ → Type 0) → Each P table → (x : ℤ) → g .reply .answer ≡ Refused x → P x
+  pub refused-listed : (P : ℤ → Type 0) → Each P table → (x : ℤ) → said (g .reply .answer) ≡ refused x → P x
   refused-listed P p x e = listed P c (handed (a .sound) s (l .memory .bytes)) p (refused-exactly (a .sound) (a .decided) x .0 e)
 
   -- **refused-unchanged**: a refused call leaves state and memory as they were.
-  pub refused-unchanged : (x : ℤ) → g .reply .answer ≡ Refused x → (g .reply .state ≡ s) × (g .memory ≡ l .memory .bytes)
+  pub refused-unchanged : (x : ℤ) → said (g .reply .answer) ≡ refused x → (g .reply .state ≡ s) × (g .memory ≡ l .memory .bytes)
   refused-unchanged x e = go (says c s l (a .sound)) (by (a .sound) (a .decided))
     where
       go : (o : Option ℤ) → By c s l g (a .sound) o → (g .reply .state ≡ s) × (g .memory ≡ l .memory .bytes)
@@ -104,7 +98,7 @@ one-outcome {c} {s} {l} {g} {g′} a b = go (says c s l (a .sound)) refl (by a (
 
     same : (o : Option ℤ) → By c s l g (a .sound) o → By c s l g′ (a .sound) o → g .reply .state ≡ g′ .reply .state → g ≡ g′
     same o h k states =
-        let replies = replied (h .answer ∙ sym (k .answer)) states (h .running) (k .running) in
+        let replies = replied (same-answer (h .answer ∙ sym (k .answer))) states (h .running) (k .running) in
         let memories = h .memory ∙ sym (k .memory) in
         let slices = h .shown ∙ sym (k .shown) in
         λ i. record { reply = replies i; memory = memories i; shown = slices i }

@@ -12,8 +12,8 @@ use Rattle.kernel.specs.declared.Class.{Class}
 use Rattle.kernel.specs.declared.Class.the-variants.{Nrt, Hard}
 use Rattle.kernel.specs.declared.Stop.the-variants.{Overrun, Lifetime}
 use Rattle.kernel.specs.Sizes.{task-count, semaphore-count, lifetime}
-use Rattle.kernel.specs.Status.{FREE, READY, EXE, SLEEP, status-number, idle, zombie, waiters, stop-number}
-use Rattle.kernel.specs.Kernel.{Bare, Kernel, task, queue, semaphore, blank, is, with-clock, with-stop}
+use Rattle.kernel.specs.Status.{FREE, READY, EXE, SLEEP, status-number, idle-queue, zombie-queue, waiters, stop-number}
+use Rattle.kernel.specs.Kernel.{Bare, Kernel, task, queue, semaphore, blank, is, with-clock, with-stop, next-period}
 use Rattle.kernel.specs.Moves.{move, schedule}
 use Rattle.kernel.specs.Tick as Tick
 use Rattle.kernel.specs.Tick.{free, wake, any-due, free-zombies, wake-idle, overrun}
@@ -22,27 +22,24 @@ use Rattle.kernel.specs.Tasks.{lowest-free, finish, ended}
 use Rattle.kernel.specs.Semaphores as Semaphores
 use Rattle.kernel.specs.Semaphores.{signal-to}
 use Rattle.kernel.specs.Channels as Channels
-use Rattle.kernel.specs.Calls.{Call, tick, create-hard, create-nrt, activate, sleep, cycle, end, kill, new-semaphore, delete, wait, signal, clock, status, deadline, period, slack, open-channel, begin-write, piece, put, begin-reading, showing, close, screen, effect}
+use Rattle.kernel.specs.Calls.{Verb, tick, create-hard, create-nrt, activate, sleep, cycle, end, kill, new-semaphore, delete, wait, signal, OnChannel, open-channel, begin-write, piece, put, begin-reading, showing, close, screen, Call, verb, question, on-channel, work, channel-effect, effect}
 use Rattle.kernel.specs.Refusals.{Handed, first, rows}
 use Rattle.kernel.specs.Step.{by-table, step}
 use Rattle.kernel.specs.Good.{Good}
-use Rattle.kernel.proofs.Allowed.{Allowed, allowed}
+use Rattle.kernel.proofs.Allowed.{VerbAllowed, Allowed, allowed}
 use Rattle.kernel.proofs.Deadlines.{before-lifetime}
+use Rattle.kernel.proofs.Decided.{either}
 use Rattle.kernel.proofs.Lowest.{found}
 use Rattle.laws_effects.specs.UnderWay.{Freeing, Ticking}
 use Rattle.laws_effects.proofs.Standing.{stands}
 use Rattle.laws_effects.proofs.Steady.{earliest, exe}
 use Rattle.laws_effects.proofs.Sweep.{Acts, all-swept}
 use Rattle.laws_effects.proofs.Ticking.{begins}
-use Rattle.laws_effects.proofs.Due.{awake, first-zombie, first-idle, frees, wakes}
+use Rattle.laws_effects.proofs.Due.{first-zombie, first-idle, frees, wakes}
 use Rattle.laws_effects.proofs.Tasks.{ended-not-ready}
 use Rattle.laws_promises.specs.Fair.{Fair}
-use Rattle.laws_promises.proofs.Earliest.{in-order, tie-rule}
+use Rattle.laws_promises.proofs.Earliest.{queues-kept, tie-rule}
 use Rattle.laws_promises.proofs.Joining.{Onward, moves, beside, leaves, Orderly, runs-on, unmoved, still-orderly, dispatches, gives-way, schedules}
-
-either : {k i j : Kernel} (b : Bool) → Fair k i → Fair k j → Fair k (cond b i j)
-either true x y = x
-either false x y = y
 
 -- ---- the tick
 
@@ -66,7 +63,7 @@ also h keeps =
 
 -- Whoever goes or wakes was not ready.
 module _ (from : Kernel) where
-  frees-fair : Acts (λ k. Freeing k × Onward from k) free zombie
+  frees-fair : Acts (λ k. Freeing k × Onward from k) free zombie-queue
   unfolding free
   frees-fair =
       also frees
@@ -74,27 +71,27 @@ module _ (from : Kernel) where
       let i = first-zombie (p .0) e in
       on l (moves (ticking-orderly (p .0) .order) x blank (i .0) (λ h. let z = h .status in omega (arith, i .1)) l (beside refl refl l f)))
 
-  wakes-fair : Acts (λ k. Ticking k × Onward from k) wake idle
+  wakes-fair : Acts (λ k. Ticking k × Onward from k) wake idle-queue
   unfolding wake
   wakes-fair =
       also wakes
       (λ k x xs t e on l f.
       let i = first-idle t e in
-      on l (moves (ticking-orderly t .order) x (awake (task k x)) (i .0) (λ h. let z = h .status in omega (arith, i .1)) l f))
+      on l (moves (ticking-orderly t .order) x (next-period (task k x)) (i .0) (λ h. let z = h .status in omega (arith, i .1)) l f))
 
   wakes-up : {k : Kernel} → Ticking k → Onward from k → Fair from (wake-idle k)
   unfolding wake-idle
   wakes-up {k} t on =
-      let w = all-swept wakes-fair k (queue k idle) (t, on) refl .0 in
+      let w = all-swept wakes-fair k (queue k idle-queue) (t, on) refl .0 in
       let o = ticking-orderly (w .0) in
-      either (any-due k (queue k idle)) (w .1 _ (schedules o)) (w .1 _ (unmoved o refl refl refl))
+      either (Fair from) (any-due k (queue k idle-queue)) (λ e. w .1 _ (schedules o)) (λ e. w .1 _ (unmoved o refl refl refl))
 
 module _ {k : Kernel} (g : Good k) where
   -- In a good kernel the running task is EXE.
   o : Orderly k
   o =
       record {
-        order = in-order g;
+        order = queues-kept g;
         is-task = g .runs .running;
         runs = λ h. let z = h .status in omega (arith, g .tasks (k .running) (g .runs .running) .exe .1 refl);
       }
@@ -109,7 +106,7 @@ module _ {k : Kernel} (g : Good k) where
       goes : (b : Bool) → overrun j ≡ b → k .clock + 1 < lifetime → Fair k (cond b (with-stop j Overrun) (wake-idle (free-zombies j)))
       goes true e l = unmoved o refl refl refl
       goes false e l =
-          let f = all-swept (frees-fair k) j (queue j zombie) ((begins g going l e, earliest g), beside refl refl) refl .0 in
+          let f = all-swept (frees-fair k) j (queue j zombie-queue) ((begins g going l e, earliest g), beside refl refl) refl .0 in
           wakes-up k (f .0 .0) (f .1)
 
       lives : (b : Bool) → eqb (k .clock + 1) lifetime ≡ b → Fair k (cond b (with-stop j Lifetime) (cond (overrun j) (with-stop j Overrun) (wake-idle (free-zombies j))))
@@ -140,12 +137,12 @@ module _ {k : Kernel} (g : Good k) where
   kills : (n : ℕ) → n < task-count → Fair k (Tasks.kill n k)
   unfolding move Tasks.kill finish
   kills n l =
-      either (eqb n (k .running)) ends
-      (leaves (o .order) n _ l (ended-not-ready (task k n) (task k n .class)) refl refl (runs-on o))
+      either (Fair k) (eqb n (k .running)) (λ e. ends)
+      (λ e. leaves (o .order) n _ l (ended-not-ready (task k n) (task k n .class)) refl refl (runs-on o))
 
   waits : (s : ℕ) → Fair k (Semaphores.wait s k)
   unfolding Semaphores.wait
-  waits s = either (ltb 0 (semaphore k s .count)) (unmoved o refl refl refl) (gives-way o _)
+  waits s = either (Fair k) (ltb 0 (semaphore k s .count)) (λ e. unmoved o refl refl refl) (λ e. gives-way o _)
 
   signals : (s : ℕ) → s < semaphore-count → Fair k (Semaphores.signal s k)
   unfolding Semaphores.signal
@@ -158,37 +155,41 @@ module _ {k : Kernel} (g : Good k) where
           let waits = stands (task k x .status) .in-waiters s l (i .1) in
           readied x _ (i .0) (omega arith) (omega arith)
 
-is-fair : (c : Call) (k : Kernel) (m : List ℕ) → Good k → stop-number (k .stop) ≡ 0 → Allowed c k m → Fair k (effect c k m .kernel)
-unfolding effect Tasks.sleep Tasks.cycle Semaphores.new-semaphore Semaphores.delete Channels.open-channel Channels.begin-write Channels.put Channels.begin-reading Channels.close
-is-fair tick k m g r a = ticks g r
-is-fair (create-hard p c) k m g r a = creates g (Hard p c) (a .1)
-is-fair (create-nrt p) k m g r a = creates g (Nrt p) (a .1)
-is-fair (activate n) k m g r a = activates g n (a .0) (a .1)
-is-fair sleep k m g r a = gives-way (o g) _
-is-fair cycle k m g r a = gives-way (o g) _
-is-fair end k m g r a = ends g
-is-fair (kill n) k m g r a = kills g n (a .1 .0)
-is-fair (new-semaphore n) k m g r a = unmoved (o g) refl refl refl
-is-fair (delete s) k m g r a = unmoved (o g) refl refl refl
-is-fair (wait s) k m g r a = waits g s
-is-fair (signal s) k m g r a = signals g s (a .0 .0)
-is-fair clock k m g r a = unmoved (o g) refl refl refl
-is-fair (status n) k m g r a = unmoved (o g) refl refl refl
-is-fair (deadline n) k m g r a = unmoved (o g) refl refl refl
-is-fair (period n) k m g r a = unmoved (o g) refl refl refl
-is-fair (slack n) k m g r a = unmoved (o g) refl refl refl
-is-fair (open-channel n b) k m g r a = unmoved (o g) refl refl refl
-is-fair (begin-write c) k m g r a = unmoved (o g) refl refl refl
-is-fair (piece c b bs) k m g r a = unmoved (o g) refl refl refl
-is-fair (put c) k m g r a = unmoved (o g) refl refl refl
-is-fair (begin-reading c) k m g r a = unmoved (o g) refl refl refl
-is-fair (showing c) k m g r a = unmoved (o g) refl refl refl
-is-fair (close c) k m g r a = unmoved (o g) refl refl refl
-is-fair (screen c text) k m g r a = unmoved (o g) refl refl refl
+  verb-fair : (v : Verb) → stop-number (k .stop) ≡ 0 → VerbAllowed v k → Fair k (work v k .kernel)
+  unfolding Tasks.sleep Tasks.cycle Semaphores.new-semaphore Semaphores.delete
+  verb-fair tick r a = ticks r
+  verb-fair (create-hard p c) r a = creates (Hard p c) (a .1)
+  verb-fair (create-nrt p) r a = creates (Nrt p) (a .1)
+  verb-fair (activate n) r a = activates n (a .0) (a .1)
+  verb-fair sleep r a = gives-way o _
+  verb-fair cycle r a = gives-way o _
+  verb-fair end r a = ends
+  verb-fair (kill n) r a = kills n (a .1 .0)
+  verb-fair (new-semaphore n) r a = unmoved o refl refl refl
+  verb-fair (delete s) r a = unmoved o refl refl refl
+  verb-fair (wait s) r a = waits s
+  verb-fair (signal s) r a = signals s (a .0 .0)
+
+  channel-fair : (c : OnChannel) (m : List ℕ) → Fair k (channel-effect c k m .kernel)
+  unfolding Channels.open-channel Channels.begin-write Channels.put Channels.begin-reading Channels.close
+  channel-fair (open-channel n b) m = unmoved o refl refl refl
+  channel-fair (begin-write c) m = unmoved o refl refl refl
+  channel-fair (piece c b bs) m = unmoved o refl refl refl
+  channel-fair (put c) m = unmoved o refl refl refl
+  channel-fair (begin-reading c) m = unmoved o refl refl refl
+  channel-fair (showing c) m = unmoved o refl refl refl
+  channel-fair (close c) m = unmoved o refl refl refl
+  channel-fair (screen c text) m = unmoved o refl refl refl
+
+  is-fair : (c : Call) (m : List ℕ) → stop-number (k .stop) ≡ 0 → Allowed c k m → Fair k (effect c k m .kernel)
+  unfolding effect
+  is-fair (verb v) m r a = verb-fair v r a
+  is-fair (question q) m r a = unmoved o refl refl refl
+  is-fair (on-channel c) m r a = channel-fair c m
 
 -- **call-fair**: a call to which no row applies is fair.
 pub call-fair : (c : Call) (k : Kernel) (m : List ℕ) → Good k → first (rows c (record { sound = true; kernel = k; memory = m })) ≡ none → Fair k (effect c k m .kernel)
-call-fair c k m g e = let a = allowed (record { sound = true; kernel = k; memory = m }) c e in is-fair c k m g (a .going) (a .allowed)
+call-fair c k m g e = let a = allowed (record { sound = true; kernel = k; memory = m }) c e in is-fair g c m (a .going) (a .allowed)
 
 -- **step-fair**: and so is every call, refused or not.
 pub step-fair : (c : Call) (k : Kernel) (m : List ℕ) → Good k → Fair k (step c (record { sound = true; kernel = k; memory = m }) .kernel)

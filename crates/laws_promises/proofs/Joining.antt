@@ -9,15 +9,15 @@ use lib.ListN.{getD}
 use lib.Dec.{ltb}
 use Rattle.kernel.specs.declared.Status.the-variants.{Exe, Ready}
 use Rattle.kernel.specs.Sizes.{task-count}
-use Rattle.kernel.specs.Status.{READY, status-number, ready}
+use Rattle.kernel.specs.Status.{READY, status-number, ready-queue}
 use Rattle.kernel.specs.Kernel.{Bare, Kernel, task, queue, blank, with-status}
 use Rattle.kernel.specs.Moves.{move, run, dispatch, preempt, yield, schedule}
 use Rattle.kernel.proofs.Moves.{Movable, moved-task, kept-task}
 use Rattle.laws_effects.proofs.Standing.{stands}
-use Rattle.laws_promises.specs.Earliest.{Before, IsReady, InOrder}
+use Rattle.laws_promises.specs.Earliest.{Before, IsReady, QueuesKept}
 use Rattle.laws_promises.specs.Fair.{Fair}
 use Rattle.laws_promises.proofs.Before.{never-first}
-use Rattle.laws_promises.proofs.Earliest.{movable, ready-queue, joins, tie-rule}
+use Rattle.laws_promises.proofs.Earliest.{movable, queue-standing, joins, tie-rule}
 
 -- The deadline in a record.
 abbrev deadline-in : Bare → ℕ
@@ -36,8 +36,8 @@ as-ready e h = record { is-task = h .is-task; status = rw e (h .status) }
 -- From k to j all that are ready stay so, as they are, and who joins stands behind: nobody leaves ready.
 record Grows (k j : Kernel) : Type 0 where
   kept : (x : ℕ) → IsReady k x → task j x ≡ task k x
-  stays : (x y : ℕ) → IsReady k x → IsReady k y → Before x y (queue k ready) → Before x y (queue j ready)
-  joins : (x y : ℕ) → IsReady k x → (IsReady k y → ⊥) → IsReady j y → task k x .deadline ≤ task j y .deadline → Before x y (queue j ready)
+  stays : (x y : ℕ) → IsReady k x → IsReady k y → Before x y (queue k ready-queue) → Before x y (queue j ready-queue)
+  joins : (x y : ℕ) → IsReady k x → (IsReady k y → ⊥) → IsReady j y → task k x .deadline ≤ task j y .deadline → Before x y (queue j ready-queue)
 
 -- What is fair from j on is fair from k on.
 abbrev pub Onward : Kernel → Kernel → Type 0
@@ -64,7 +64,7 @@ module _ {k j : Kernel} (g : Grows k j) where
       }
 
 -- A task that is not ready moves.
-module _ {k : Kernel} (o : InOrder k) (i : ℕ) (a : Bare) (l : i < task-count) (out : IsReady k i → ⊥) where
+module _ {k : Kernel} (o : QueuesKept k) (i : ℕ) (a : Bare) (l : i < task-count) (out : IsReady k i → ⊥) where
   m : Movable k i
   m = movable o i l
 
@@ -102,21 +102,21 @@ beside t q =
 
 -- r is no ready task that stands behind another.
 abbrev Unpassed : Kernel → ℕ → Type 0
-Unpassed k r = (x : ℕ) → IsReady k r → Before x r (queue k ready) → ⊥
+Unpassed k r = (x : ℕ) → IsReady k r → Before x r (queue k ready-queue) → ⊥
 
 -- Who is ready in j was so in k, with the same record.
 stand : {k j : Kernel} → ((x : ℕ) → IsReady j x → task j x ≡ task k x)
-    → ((x y : ℕ) → IsReady j x → IsReady j y → Before x y (queue k ready) → Before x y (queue j ready)) → Unpassed k (j .running) → Fair k j
+    → ((x y : ℕ) → IsReady j x → IsReady j y → Before x y (queue k ready-queue) → Before x y (queue j ready-queue)) → Unpassed k (j .running) → Fair k j
 stand {k} same order u =
     record {
       deadline = λ x h z. ap deadline-in (same x z);
       stays = λ x y hx hy zx zy. order x y zx zy;
       joins = λ x y hx ny zx zy le. absurd (ny (as-ready (sym (same y zy)) zy));
-      taken = λ x y hx hy b e. u x (subst (IsReady k) (sym e) hy) (subst (λ (z : ℕ). Before x z (queue k ready)) (sym e) b);
+      taken = λ x y hx hy b e. u x (subst (IsReady k) (sym e) hy) (subst (λ (z : ℕ). Before x z (queue k ready-queue)) (sym e) b);
     }
 
 -- A task moves that is not ready then.
-pub leaves : {k j : Kernel} → InOrder k → (i : ℕ) (a : Bare) → i < task-count → (status-number (a .status) ≡ READY → ⊥)
+pub leaves : {k j : Kernel} → QueuesKept k → (i : ℕ) (a : Bare) → i < task-count → (status-number (a .status) ≡ READY → ⊥)
     → j .tasks ≡ move k i a .tasks → j .queues ≡ move k i a .queues → Unpassed k (j .running) → Fair k j
 leaves {k} {j} o i a l out t q u =
     stand (λ x h. same-record t x ∙ kept-task m a x (other h)) (λ x y hx hy b. rw q (tie-rule o .stays i a l x y (other hx) (other hy) b)) u
@@ -133,7 +133,7 @@ leaves {k} {j} o i a l out t q u =
 
 -- While a call is under way the queues are in order, and the running task is a task that is not ready.
 pub record Orderly (k : Kernel) : Type 0 where
-  pub order : InOrder k
+  pub order : QueuesKept k
   pub is-task : k .running < task-count
   pub runs : IsReady k (k .running) → ⊥
 
@@ -155,14 +155,14 @@ still-orderly {k} o i a l ne =
       runs = λ h. o .runs (as-ready (sym (kept-task (movable (o .order) i l) a (k .running) ne)) h);
     }
 
-pub dispatches : {k : Kernel} → InOrder k → Fair k (dispatch k)
+pub dispatches : {k : Kernel} → QueuesKept k → Fair k (dispatch k)
 unfolding dispatch
-dispatches {k} o = go (queue k ready) refl
+dispatches {k} o = go (queue k ready-queue) refl
   where
-    go : (xs : List ℕ) → queue k ready ≡ xs → Fair k (run k xs)
+    go : (xs : List ℕ) → queue k ready-queue ≡ xs → Fair k (run k xs)
     go [] e = stand (λ x h. refl) (λ x y hx hy b. b) (λ x h b. rw e at b)
     go (x ∷ xs) e =
-        let queued = rw e at (ready-queue o) in
+        let queued = rw e at (queue-standing o) in
         leaves o x (with-status (task k x) Exe) (queued .only .0 .0) (omega arith) refl refl
         (λ u h b. never-first u x xs (queued .once) (rw e at b))
 
@@ -172,7 +172,7 @@ gives-way {k} o a = moves (o .order) (k .running) a (o .is-task) (o .runs) _ (di
 
 pub schedules : {k : Kernel} → Orderly k → Fair k (schedule k)
 unfolding preempt schedule
-schedules {k} o = go (queue k ready)
+schedules {k} o = go (queue k ready-queue)
   where
     yields : (b : Bool) → Fair k (cond b (preempt k) k)
     yields true = gives-way o (with-status (task k (k .running)) Ready)

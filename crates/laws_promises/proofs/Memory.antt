@@ -9,15 +9,15 @@ use lib.IntN.{ℤ}
 use lib.ListN.{length, getD, replicate, length-replicate}
 use Rattle.kernel.specs.declared.State.{State}
 use Rattle.kernel.specs.Kernel.{Kernel, channel}
-use Rattle.kernel.specs.Channels.{place, buffer, own, over, lowest-buffer, cleared, written}
-use Rattle.kernel.specs.Calls.{Call, tick, create-hard, create-nrt, activate, sleep, cycle, end, kill, new-semaphore, delete, wait, signal, clock, status, deadline, period, slack, open-channel, begin-write, piece, put, begin-reading, showing, close, screen, effect}
+use Rattle.kernel.specs.Channels.{buffer-start, buffer, own, over, lowest-buffer, cleared, written}
+use Rattle.kernel.specs.Calls.{OnChannel, open-channel, begin-write, piece, put, begin-reading, showing, close, screen, Call, verb, question, on-channel, channel-effect, effect}
 use Rattle.kernel.specs.Seen.{seen}
 use Rattle.kernel.specs.Good.{Good}
 use Rattle.kernel.specs.Promise.{handed, Loan, Given, Answered}
-use Rattle.kernel.proofs.Allowed.{Allowed, allowed}
+use Rattle.kernel.proofs.Allowed.{ChannelAllowed, Allowed, allowed}
 use Rattle.kernel.proofs.Messages.{write-open, inside, taken, named}
 use Rattle.kernel.proofs.Over.{over-length, over-before, over-behind}
-use Rattle.laws_promises.specs.Memory.{Range, written-by, Outside, SameOutside}
+use Rattle.laws_promises.specs.Memory.{Range, written-on, written-by, Outside, SameOutside}
 use Rattle.laws_promises.proofs.Answers.{says, By, by}
 
 same : {r : Range} {m : List ℕ} → SameOutside r m m
@@ -32,49 +32,37 @@ bytes-over m a bs fits = record { length-is = over-length m a bs fits; byte-is =
 
 -- Begin write, and a piece.
 module _ (k : Kernel) (m : List ℕ) (g : Good k) (c : ℕ) where
-  clears : Allowed (begin-write c) k m → SameOutside (written-by (begin-write c) k) m (cleared c k m)
+  clears : ChannelAllowed (begin-write c) k m → SameOutside (written-on (begin-write c) k) m (cleared c k m)
   unfolding cleared
   clears a =
       let b = lowest-buffer k c in
       let zeros : List ℕ = replicate (channel k c .size) 0 in
       let long : length zeros ≡ channel k c .size = length-replicate (channel k c .size) 0 in
-      subst (λ (n : ℕ). SameOutside (record { from = place c b; size = n }) m (over m (place c b) zeros)) long
-      (bytes-over m (place c b) zeros (omega (arith, a .0, inside g c (a .1) b (taken g c (a .1) (a .3)))))
+      subst (λ (n : ℕ). SameOutside (record { from = buffer-start c b; size = n }) m (over m (buffer-start c b) zeros)) long
+      (bytes-over m (buffer-start c b) zeros (omega (arith, a .0, inside g c (a .1) b (taken g c (a .1) (a .3)))))
 
-  writes : (x : ℕ) (bs : List ℕ) → Allowed (piece c x bs) k m → SameOutside (written-by (piece c x bs) k) m (written c x bs k m)
+  writes : (x : ℕ) (bs : List ℕ) → ChannelAllowed (piece c x bs) k m → SameOutside (written-on (piece c x bs) k) m (written c x bs k m)
   unfolding written
   writes x bs a =
       let b = buffer (own k c) in
-      bytes-over m (place c b + x) bs (omega (arith, a .0, a .3, inside g c (a .1) b (named g c (a .1) (write-open (own k c) (a .2)))))
+      bytes-over m (buffer-start c b + x) bs (omega (arith, a .0, a .3, inside g c (a .1) b (named g c (a .1) (write-open (own k c) (a .2)))))
 
--- What a legal call writes.
-wrote : (c : Call) (k : Kernel) (m : List ℕ) → Good k → Allowed c k m → SameOutside (written-by c k) m (effect c k m .memory)
+-- **wrote**: what a legal call writes.
+pub wrote : (c : Call) (k : Kernel) (m : List ℕ) → Good k → Allowed c k m → SameOutside (written-by c k) m (effect c k m .memory)
 unfolding effect
-wrote tick k m g a = same
-wrote (create-hard p c) k m g a = same
-wrote (create-nrt p) k m g a = same
-wrote (activate n) k m g a = same
-wrote sleep k m g a = same
-wrote cycle k m g a = same
-wrote end k m g a = same
-wrote (kill n) k m g a = same
-wrote (new-semaphore n) k m g a = same
-wrote (delete s) k m g a = same
-wrote (wait s) k m g a = same
-wrote (signal s) k m g a = same
-wrote clock k m g a = same
-wrote (status n) k m g a = same
-wrote (deadline n) k m g a = same
-wrote (period n) k m g a = same
-wrote (slack n) k m g a = same
-wrote (open-channel n b) k m g a = same
-wrote (begin-write c) k m g a = clears k m g c a
-wrote (piece c x bs) k m g a = writes k m g c x bs a
-wrote (put c) k m g a = same
-wrote (begin-reading c) k m g a = same
-wrote (showing c) k m g a = same
-wrote (close c) k m g a = same
-wrote (screen c text) k m g a = same
+wrote (verb v) k m g a = same
+wrote (question q) k m g a = same
+wrote (on-channel c) k m g a = go c a
+  where
+    go : (c : OnChannel) → ChannelAllowed c k m → SameOutside (written-on c k) m (channel-effect c k m .memory)
+    go (open-channel n b) a = same
+    go (begin-write c) a = clears k m g c a
+    go (piece c x bs) a = writes k m g c x bs a
+    go (put c) a = same
+    go (begin-reading c) a = same
+    go (showing c) a = same
+    go (close c) a = same
+    go (screen c text) a = same
 
 -- **outside-kept**: every byte outside what the call writes is what it was, and so is the memory's length.
 pub outside-kept : {c : Call} {s : State} {l : Loan} {g : Given} → Answered c s l g → SameOutside (written-by c (seen s)) (l .memory .bytes) (g .memory)

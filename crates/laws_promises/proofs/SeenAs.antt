@@ -4,6 +4,7 @@ use mathlib.Core.Bool.{true}
 use mathlib.Core.Option.{Option, none, some}
 use lib.IntN.{ℤ}
 use Rattle.kernel.specs.declared.State.{State}
+use Rattle.kernel.specs.Answer.{said}
 use Rattle.kernel.specs.Calls.{Call, effect}
 use Rattle.kernel.specs.Step.{Outcome, by-table, step}
 use Rattle.kernel.specs.Seen.{seen}
@@ -14,7 +15,7 @@ use Rattle.laws_promises.proofs.Answers.{By, says, by}
 
 -- What a call gave back is the outcome o, as far as it is seen.
 pub record SeenAs (o : Outcome) (l : Loan) (g : Given) : Type 0 where
-  pub answer : g .reply .answer ≡ o .answer
+  pub answer : said (g .reply .answer) ≡ o .answer
   pub kernel : seen (g .reply .state) ≡ o .kernel
   pub memory : g .memory ≡ o .memory
   pub shown : g .shown ≡ handed-back (o .shown) l

@@ -21,11 +21,11 @@ use Rattle.kernel.specs.declared.Latest.the-variants.{Nothing, Buffer}
 use Rattle.kernel.specs.declared.Session.{Session}
 use Rattle.kernel.specs.declared.Session.the-variants.{Closed, Write, Reading}
 use Rattle.kernel.specs.declared.State.{State}
-use Rattle.kernel.specs.Sizes.{task-count, semaphore-count, channel-count, longest-period, last-priority, main-priority, highest-count, longest-message, fewest-buffers, most-buffers, nrt-deadline, lifetime, whole}
-use Rattle.kernel.specs.Status.{FREE, READY, EXE, IDLE, WAIT, ZOMBIE, status-number, queue-count, ready, waiters, stop-number}
+use Rattle.kernel.specs.Sizes.{task-count, semaphore-count, channel-count, fitting, last-priority, main-priority, highest-count, longest-message, fewest-buffers, most-buffers, nrt-deadline, lifetime, whole}
+use Rattle.kernel.specs.Status.{FREE, READY, EXE, IDLE, WAIT, ZOMBIE, status-number, queue-count, ready-queue, waiters, stop-number}
 use Rattle.kernel.specs.Kernel.{Bare, Kernel, task, queue, semaphore, channel, session, hard}
 use Rattle.kernel.specs.Seen.{next-of, previous-of, head-of, seen}
-use Rattle.kernel.specs.Good.{Sized, Fits, Timely, Names, MainOrSized, Suited, GoodTask, NoLater, Runs, Shared, shares, Counted, Unused, Used, Opens, GoodSession, GoodChannel, Clocked, Good, place, deadline-of}
+use Rattle.kernel.specs.Good.{Sized, Fits, Timely, Names, MainOrSized, Suited, GoodTask, NoLater, Runs, Shared, shares, Counted, Unused, Used, Opens, GoodSession, GoodChannel, Clocked, Good, standing, deadline-of}
 use Rattle.kernel.specs.Sound.{Filed, Sound}
 use Rattle.laws_promises.proofs.Decisions.{never, part, where-so, exactly-where, one-or-other, each-below, each-of}
 
@@ -43,10 +43,10 @@ rising? : (deadline : ℕ → ℕ) (xs : List ℕ) → Dec (Rising deadline xs)
 rising? deadline [] = yes tt
 rising? deadline (x ∷ xs) = Dec·and (each-of (λ y. decLe (deadline x) (deadline y)) xs) (rising? deadline xs)
 
-queue? : (n : ℕ) (place deadline : ℕ → ℕ) (q : ℕ) (xs : List ℕ) → Dec (Queue n place deadline q xs)
-queue? n place deadline q xs =
-    part (λ r. r .only) (each-of (λ x. Dec·and (decLt x n) (ℕ-discrete (place x) q)) xs) λ only.
-    part (λ r. r .all) (each-below n (λ x. where-so (ℕ-discrete (place x) q) (among? x xs))) λ all.
+queue? : (n : ℕ) (standing deadline : ℕ → ℕ) (q : ℕ) (xs : List ℕ) → Dec (Queue n standing deadline q xs)
+queue? n standing deadline q xs =
+    part (λ r. r .only) (each-of (λ x. Dec·and (decLt x n) (ℕ-discrete (standing x) q)) xs) λ only.
+    part (λ r. r .all) (each-below n (λ x. where-so (ℕ-discrete (standing x) q) (among? x xs))) λ all.
     part (λ r. r .once) (once? xs) λ once.
     part (λ r. r .rising) (rising? deadline xs) λ rising.
     yes (record { only = only; all = all; once = once; rising = rising })
@@ -64,8 +64,8 @@ filed? : (s : State) → Dec (Filed s)
 filed? s =
     let next = next-of (s .tasks) in
     let previous = previous-of (s .tasks) in
-    let alone : (link : ℕ → ℤ) → Dec ((x : ℕ) → x < task-count → queue-count ≤ place (seen s) x → link x ≡ end) =
-    λ link. each-below task-count (λ x. where-so (decLe queue-count (place (seen s) x)) (ℤ-discrete (link x) end)) in
+    let alone : (link : ℕ → ℤ) → Dec ((x : ℕ) → x < task-count → queue-count ≤ standing (seen s) x → link x ≡ end) =
+    λ link. each-below task-count (λ x. where-so (decLe queue-count (standing (seen s) x)) (ℤ-discrete (link x) end)) in
     let chain : (q : ℕ) → Dec (Chain task-count next previous (head-of (s .heads) q) (queue (seen s) q)) =
     λ q. map-dec (λ w. record { whole = w }) (λ c. c .whole) (stretch? task-count next previous end (head-of (s .heads) q) (queue (seen s) q)) in
     part (λ r. r .linked) (each-below queue-count chain) λ linked.
@@ -83,12 +83,7 @@ is-hard? : (c : Class) → Dec (hard c ≡ true)
 is-hard? c = Bool-discrete (hard c) true
 
 fits? : (c : Class) → Dec (Fits c)
-fits? (Hard p c) =
-    part (λ f. f .0) (decLe 1 p) λ period.
-    part (λ f. f .1) (decLe p longest-period) λ short.
-    part (λ f. f .2) (decLe 1 c) λ cost.
-    part (λ f. f .3) (decLe c p) λ most.
-    yes (period, short, cost, most)
+fits? (Hard p c) = Bool-discrete (fitting p c) true
 fits? (Nrt p) = decLe p last-priority
 
 main-or-sized? : (x : ℕ) (c : Class) (n : ℕ) → Dec (MainOrSized x c n)
@@ -140,15 +135,15 @@ runs? : (k : Kernel) → Dec (Runs k)
 runs? k =
     let a = task k (k .running) in
     part (λ r. r .running) (decLt (k .running) task-count) λ running.
-    part (λ r. r .earliest) (no-later? k (a .deadline) (queue k ready)) λ earliest.
+    part (λ r. r .earliest) (no-later? k (a .deadline) (queue k ready-queue)) λ earliest.
     part (λ r. r .in-time) (where-so (ℕ-discrete (stop-number (k .stop)) 0) (where-so (is-hard? (a .class)) (decLe (k .clock) (a .deadline)))) λ in-time.
     yes (record { running = running; earliest = earliest; in-time = in-time })
 
 shared? : (k : Kernel) → Dec (Shared k)
 shared? k =
-    part (λ r. r .share) (ℕ-discrete (k .share) (shares (k .tasks))) λ share.
-    part (λ r. r .share-fits) (decLe (k .share) whole) λ share-fits.
-    yes (record { share = share; share-fits = share-fits })
+    part (λ r. r .total-is) (ℕ-discrete (k .total) (shares (k .tasks))) λ share.
+    part (λ r. r .total-fits) (decLe (k .total) whole) λ share-fits.
+    yes (record { total-is = share; total-fits = share-fits })
 
 clocked? : (k : Kernel) → Dec (Clocked k)
 clocked? k =
@@ -272,7 +267,7 @@ good? k =
     part (λ r. r .sized) (sized? k) λ sized.
     part (λ r. r .tasks) (each-below task-count (λ x. task? k x (task k x))) λ tasks.
     part (λ r. r .runs) (runs? k) λ runs.
-    part (λ r. r .queues) (each-below queue-count (λ q. queue? task-count (place k) (deadline-of k) q (queue k q))) λ queues.
+    part (λ r. r .queues) (each-below queue-count (λ q. queue? task-count (standing k) (deadline-of k) q (queue k q))) λ queues.
     part (λ r. r .shared) (shared? k) λ shared.
     part (λ r. r .semaphores) (each-below semaphore-count (λ s. counted? (semaphore k s) (empty? (queue k (waiters s))))) λ semaphores.
     part (λ r. r .channels) (each-below channel-count (channel? k)) λ channels.

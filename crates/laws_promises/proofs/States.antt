@@ -7,7 +7,6 @@ use lib.IntN.{pos}
 use lib.ListN.{length, getD, length-map, List·getD-eq-default}
 use lib.Seq.{ext-getD}
 use Rattle.laws_chain.specs.Chain.{end, start}
-use Rattle.laws_chain.specs.Filing.{Queue}
 use Rattle.laws_chain.proofs.Stretch.{found}
 use Rattle.laws_chain.proofs.Laid.{after, before, laid}
 use Rattle.kernel.specs.declared.Task.{Task}
@@ -16,8 +15,8 @@ use Rattle.kernel.specs.Sizes.{task-count}
 use Rattle.kernel.specs.Status.{queue-of, queue-count}
 use Rattle.kernel.specs.Kernel.{Bare, Kernel, task, queue, blank}
 use Rattle.kernel.specs.Seen.{bare, record-at, next-of, previous-of, head-of, queue-from, seen}
-use Rattle.kernel.specs.Good.{Good, place, deadline-of}
-use Rattle.kernel.specs.Sound.{Holds}
+use Rattle.kernel.specs.Good.{Good, standing, Queued}
+use Rattle.kernel.specs.Sound.{LinksHold}
 use Rattle.kernel.specs.Shows.{Shows}
 use Rattle.kernel.proofs.Seen.{within, queue-seen}
 
@@ -38,7 +37,7 @@ state-of k =
       clock = k .clock;
       stop = k .stop;
       running = record { 0 = k .running };
-      share = k .share;
+      total = k .total;
       tasks = linked (queue k) 0 (k .tasks);
       heads = map (start end) (k .queues);
       semaphores = k .semaphores;
@@ -56,7 +55,7 @@ linked-at queues i (a ∷ ts) zero l = ap (λ (y : ℕ). with-links queues y a) 
 linked-at queues i (a ∷ ts) (suc x) l = linked-at queues (suc i) ts x (omega arith) ∙ ap (λ (y : ℕ). with-links queues y (getD ts x blank)) (omega arith)
 
 module _ (k : Kernel) (g : Good k) where
-  holds : Holds (state-of k) (place k) (queue k)
+  holds : LinksHold (state-of k) (standing k) (queue k)
   unfolding state-of
   holds =
       let tasks = g .sized .tasks in
@@ -87,7 +86,7 @@ module _ (k : Kernel) (g : Good k) where
         clock = k .clock;
         stop = k .stop;
         running = k .running;
-        share = k .share;
+        total = k .total;
         tasks = bare-linked (queue k) 0 (k .tasks) i;
         queues = queues-seen i;
         semaphores = k .semaphores;
@@ -96,8 +95,8 @@ module _ (k : Kernel) (g : Good k) where
       } in
       record {
         kept = record {
-          filed = subst (λ (j : Kernel). Holds (state-of k) (place j) (queue j)) (sym is) holds;
-          queues = subst (λ (j : Kernel). (q : ℕ) → q < queue-count → Queue task-count (place j) (deadline-of j) q (queue j q)) (sym is) (g .queues);
+          filed = subst (λ (j : Kernel). LinksHold (state-of k) (standing j) (queue j)) (sym is) holds;
+          queues = subst (λ (j : Kernel). Queued j) (sym is) (g .queues);
         };
         is = is;
       }

@@ -2,9 +2,8 @@
 use mathlib.Core.Path.{_≡_, refl, ap, sym, subst, _∙_}
 use mathlib.Core.Bool.{Bool, true, false, true≢false, cond, and-eq-true-iff}
 use mathlib.Core.Logic.{_↔_}
-use mathlib.Core.List.{List, [], _∷_}
 use mathlib.Core.Option.{Option, none, some}
-use Prim.Native.Nat.{ℕ, _+_}
+use Prim.Native.Nat.{_+_}
 use lib.IntN.{ℤ}
 use lib.Dec.{eqb, ltb}
 use borrow.Author.Tests.{eqb-true, eqb-false, ltb-true, lt-ltb}
@@ -12,61 +11,24 @@ use Rattle.kernel.specs.declared.Stop.{Stop}
 use Rattle.kernel.specs.declared.Stop.the-variants.{Going, Overrun, Lifetime}
 use Rattle.kernel.specs.declared.State.{State}
 use Rattle.kernel.specs.Sizes.{lifetime}
-use Rattle.kernel.specs.Status.{ready, idle, zombie}
-use Rattle.kernel.specs.Kernel.{Kernel, task, queue, hard, with-clock, with-stop}
-use Rattle.kernel.specs.Moves.{move, run, dispatch, preempt, yield, schedule}
+use Rattle.kernel.specs.Kernel.{Kernel, task, hard, with-clock, with-stop}
 use Rattle.kernel.specs.Tick as Tick
-use Rattle.kernel.specs.Tick.{due, sweep, free, wake, any-due, free-zombies, wake-idle, overrun}
-use Rattle.kernel.specs.Calls.{Call, tick, effect}
+use Rattle.kernel.specs.Tick.{free-zombies, wake-idle, overrun}
+use Rattle.kernel.specs.Calls.{Call, tick, verb, effect}
 use Rattle.kernel.specs.Seen.{seen}
 use Rattle.kernel.specs.Sound.{Sound}
 use Rattle.kernel.specs.Promise.{handed, Loan, Given, Answered}
 use Rattle.kernel.proofs.Allowed.{allowed}
 use Rattle.kernel.proofs.Shows.{kept, itself, beside}
+use Rattle.laws_effects.proofs.Untouched.{Untouched, frees, wakes}
 use Rattle.queues.proofs.Determined.{shows-once}
 use Rattle.laws_promises.specs.Outcome.{TookEffect}
 use Rattle.laws_promises.specs.Stops.{Late, Reason, Ticked, stopped, StopOnly}
 use Rattle.laws_promises.proofs.Answers.{By, says, by, takes-effect}
 
--- ---- a tick that goes on leaves the stop reason
-
-either : (b : Bool) (i j : Kernel) {w : Stop} → i .stop ≡ w → j .stop ≡ w → cond b i j .stop ≡ w
-either true i j e f = e
-either false i j e f = f
-
-dispatches : (k : Kernel) → dispatch k .stop ≡ k .stop
-unfolding dispatch move
-dispatches k = go (queue k ready)
-  where
-    go : (xs : List ℕ) → run k xs .stop ≡ k .stop
-    go [] = refl
-    go (x ∷ xs) = refl
-
-preempts : (k : Kernel) → preempt k .stop ≡ k .stop
-unfolding preempt move
-preempts k = dispatches _
-
-schedules : (k : Kernel) → schedule k .stop ≡ k .stop
-unfolding schedule
-schedules k = go (queue k ready)
-  where
-    go : (xs : List ℕ) → yield k xs .stop ≡ k .stop
-    go [] = refl
-    go (x ∷ xs) = either (ltb (task k x .deadline) (task k (k .running) .deadline)) (preempt k) k (preempts k) refl
-
-sweeps : (f : Kernel → ℕ → Kernel) → ((k : Kernel) (x : ℕ) → f k x .stop ≡ k .stop) → (k : Kernel) (xs : List ℕ) → sweep f k xs .stop ≡ k .stop
-sweeps f each k [] = refl
-sweeps f each k (x ∷ xs) = sweeps f each (cond (due k x) (f k x) k) xs ∙ either (due k x) (f k x) k (each k x) refl
-
-frees : (k : Kernel) → free-zombies k .stop ≡ k .stop
-unfolding free-zombies free move
-frees k = sweeps free (λ j x. refl) k (queue k zombie)
-
-wakes : (k : Kernel) → wake-idle k .stop ≡ k .stop
-unfolding wake-idle wake move
-wakes k =
-    let swept = sweeps wake (λ j x. refl) k (queue k idle) in
-    either (any-due k (queue k idle)) _ _ (schedules _ ∙ swept) swept
+-- A tick that goes on leaves the stop reason.
+stop-untouched : Untouched (λ k. k .stop)
+stop-untouched = record { by-tasks = λ k ts qs. refl; by-running = λ k x. refl; by-total = λ k n. refl }
 
 -- ---- the model's tick
 
@@ -107,7 +69,7 @@ module _ (k : Kernel) where
       go true e b f = record { exactly = exact Lifetime (eqb-true (k .clock + 1) lifetime e); only = λ n. refl }
       go false e true f = record { exactly = exact Overrun (eqb-false (k .clock + 1) lifetime e, late .0 f); only = λ n. refl }
       go false e false f =
-          let on = wakes (free-zombies later) ∙ frees later ∙ going in
+          let on = wakes stop-untouched (free-zombies later) ∙ frees stop-untouched later ∙ going in
           let why = exact Going (eqb-false (k .clock + 1) lifetime e, λ l. true≢false (sym (late .1 l) ∙ f)) in
           record { exactly = subst (λ (v : Stop). (w : Stop) → (v ≡ w) ↔ Reason k w) (sym on) why; only = λ n. absurd (n on) }
 
@@ -121,8 +83,8 @@ changed-sound {c} {s} {l} {g} a changed = go (says c s l (a .sound)) refl (by a 
     go none e h = a .decided .0 (allowed (handed (a .sound) s (l .memory .bytes)) c e .sound)
     go (some x) e h = absurd (changed (h .state))
 
-module _ {s : State} {l : Loan} {g : Given} (a : Answered tick s l g) (going : s .stop ≡ Going) where
-  took : Sound s → TookEffect (effect tick (seen s) (l .memory .bytes)) l g
+module _ {s : State} {l : Loan} {g : Given} (a : Answered (verb tick) s l g) (going : s .stop ≡ Going) where
+  took : Sound s → TookEffect (effect (verb tick) (seen s) (l .memory .bytes)) l g
   took h = takes-effect a h (rw going refl)
 
   ticked : Sound s → Ticked (seen s) (seen (g .reply .state))

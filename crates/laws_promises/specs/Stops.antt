@@ -5,11 +5,11 @@ use mathlib.Core.Logic.{_↔_}
 use mathlib.Core.List.{List}
 use Prim.Native.Nat.{ℕ, _+_, _<_}
 use lib.IntN.{pos}
-use Rattle.kernel.specs.declared.Answer.the-variants.{Done}
 use Rattle.kernel.specs.declared.Stop.{Stop}
 use Rattle.kernel.specs.declared.Stop.the-variants.{Going, Overrun, Lifetime}
 use Rattle.kernel.specs.declared.State.{State}
 use Rattle.kernel.specs.declared.Reply.{Reply}
+use Rattle.kernel.specs.Answer.{success, said}
 use Rattle.kernel.specs.Sizes.{lifetime}
 use Rattle.kernel.specs.Kernel.{Kernel, task, hard, with-clock, with-stop}
 use Rattle.kernel.specs.Seen.{seen}
@@ -43,7 +43,7 @@ stopped s clock w =
       clock = clock;
       stop = w;
       running = s .running;
-      share = s .share;
+      total = s .total;
       tasks = s .tasks;
       heads = s .heads;
       semaphores = s .semaphores;
@@ -60,4 +60,4 @@ pub record StopOnly (s : State) (m : List ℕ) (r : Reply) (left : List ℕ) : T
   pub running : r .running ≡ s .running
   pub memory : left ≡ m
   -- the tick that stops is no refusal and answers 0
-  pub answer : r .answer ≡ Done (pos 0)
+  pub answer : said (r .answer) ≡ success (pos 0)

@@ -9,6 +9,7 @@ use lib.ListN.{replicate}
 use lib.Dec.{eqb}
 use borrow.Author.Tests.{eq-eqb, ne-eqb}
 use Rattle.kernel.specs.Channels.{over}
+use Rattle.kernel.proofs.Decided.{either}
 use Rattle.laws_runs.specs.Trace.{Event, begins-write, writes, puts, begins-reading}
 use Rattle.laws_runs.specs.Messages.{Act, _did_, log, size-of, written, last-put, opened}
 use Rattle.laws_runs.specs.Whole.{ShownBy, Whole}
@@ -22,11 +23,6 @@ found-so e (x ∷ h) s =
     (λ c w. let r = s .0 c w in record { bytes = r .bytes; message-is = sym (e (size-of c h) (x .who) (log c h)) ∙ r .message-is; shown-is = r .shown-is }, found-so e h (s .1))
 
 -- ---- writes that are not put
-
--- What holds with an act and without it.
-either : {A : Type 0} (f : List Act → A) {v : A} (b : Bool) {with-it without : List Act} → f with-it ≡ v → f without ≡ v → f (cond b with-it without) ≡ v
-either f true x y = x
-either f false x y = y
 
 module _ (n : ℕ) where
   -- A task of which a put was met loses nothing that it wrote.
@@ -55,17 +51,23 @@ module _ (n : ℕ) where
       go false = e
   written-finished p w (u did begins-reading ∷ h) e = written-finished p w h e
 
+  abbrev SamePut : List Act → List Act → Type 0
+  SamePut h l = last-put n l ≡ last-put n h
+
   last-put-finished : (p : ℕ → Bool) (h : List Act) → last-put n (without-unput p h) ≡ last-put n h
   last-put-finished p [] = refl
-  last-put-finished p (u did begins-write ∷ h) = either (last-put n) (p u) (last-put-finished (but p u false) h) (last-put-finished p h)
-  last-put-finished p (u did writes a bs ∷ h) = either (last-put n) (p u) (last-put-finished p h) (last-put-finished p h)
+  last-put-finished p (u did begins-write ∷ h) = either (SamePut h) (p u) (λ e. last-put-finished (but p u false) h) (λ e. last-put-finished p h)
+  last-put-finished p (u did writes a bs ∷ h) = either (SamePut h) (p u) (λ e. last-put-finished p h) (λ e. last-put-finished p h)
   last-put-finished p (u did puts ∷ h) = ap some (written-finished (but p u true) u h (rw (eq-eqb u u refl) refl))
   last-put-finished p (u did begins-reading ∷ h) = last-put-finished p h
 
+  abbrev SameOpened : ℕ → List Act → List Act → Type 0
+  SameOpened t h l = opened n t l ≡ opened n t h
+
   opened-finished : (t : ℕ) (p : ℕ → Bool) (h : List Act) → opened n t (without-unput p h) ≡ opened n t h
   opened-finished t p [] = refl
-  opened-finished t p (u did begins-write ∷ h) = either (opened n t) (p u) (opened-finished t (but p u false) h) (opened-finished t p h)
-  opened-finished t p (u did writes a bs ∷ h) = either (opened n t) (p u) (opened-finished t p h) (opened-finished t p h)
+  opened-finished t p (u did begins-write ∷ h) = either (SameOpened t h) (p u) (λ e. opened-finished t (but p u false) h) (λ e. opened-finished t p h)
+  opened-finished t p (u did writes a bs ∷ h) = either (SameOpened t h) (p u) (λ e. opened-finished t p h) (λ e. opened-finished t p h)
   opened-finished t p (u did puts ∷ h) = opened-finished t (but p u true) h
   opened-finished t p (u did begins-reading ∷ h) = rw (last-put-finished p h, opened-finished t p h) refl
 

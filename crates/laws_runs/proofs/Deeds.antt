@@ -1,202 +1,211 @@
--- What opens a channel, and each deed on one, keeps the kernel and the memory what the trace tells. Assumes nothing.
+-- Each call, where nothing refuses it, keeps the channels and the memory what the trace tells. Assumes nothing.
 use mathlib.Core.Path.{_≡_, refl, sym, ap, subst, _∙_}
-use mathlib.Core.Bool.{true, cond}
-use mathlib.Core.List.{List, _∷_}
+use mathlib.Core.Bool.{Bool, true, false, false≢true, cond, _&&_}
+use mathlib.Core.List.{List, [], _∷_, _++_}
 use mathlib.Core.Option.{some}
-use mathlib.Core.Logic.{_⊎_, inl, inr}
+use mathlib.Core.Logic.{inl, ⊎-elim}
 use Prim.Native.Nat.{ℕ, _+_, _≤_, _<_}
 use native.Mathlib.Omega.{arith}
-use native.Mathlib.Decide.{ℕ-discrete}
-use lib.ListN.{length, getD, replicate, length-replicate}
+use lib.ListN.{length, replicate, length-replicate}
 use lib.Dec.{eqb}
-use borrow.Author.Tests.{eq-eqb, ne-eqb}
-use Rattle.kernel.specs.declared.Channel.{Channel}
+use borrow.Author.Tests.{eqb-true, eq-eqb}
+use Rattle.kernel.specs.declared.Latest.{Latest}
 use Rattle.kernel.specs.declared.Latest.the-variants.{Nothing, Buffer}
 use Rattle.kernel.specs.declared.Session.{Session}
 use Rattle.kernel.specs.declared.Session.the-variants.{Closed, Write, Reading}
-use Rattle.kernel.specs.Sizes.{task-count, channel-count, most-buffers, longest-message}
-use Rattle.kernel.specs.Kernel.{Kernel, channel, session, unused-channel, with-channel}
-use Rattle.kernel.specs.Channels.{place, over, own, with-own, buffer, newest, free-buffer}
-use Rattle.kernel.specs.Good.{Good, GoodChannel, Opens}
-use Rattle.kernel.proofs.Allowed.{ChannelInUse, OfItsSize}
-use Rattle.kernel.proofs.Places.{place-inside}
+use Rattle.kernel.specs.Sizes.{task-count, channel-count, most-buffers}
+use Rattle.kernel.specs.Kernel.{Kernel, channel, session}
+use Rattle.kernel.specs.Channels as Channels
+use Rattle.kernel.specs.Channels.{buffer-start, over, own, buffer, newest, is-write, put-before, free-buffer, lowest-buffer, lowest-channel}
+use Rattle.kernel.specs.Calls.{OnChannel, open-channel, begin-write, piece, put, begin-reading, showing, close, screen, Call, verb, question, on-channel, channel-effect, effect}
+use Rattle.kernel.specs.Step.{accept}
+use Rattle.kernel.specs.Good.{Good, Unused, Opens}
+use Rattle.kernel.proofs.Allowed.{ChannelAllowed, Allowed, OfItsSize}
+use Rattle.kernel.proofs.Decided.{either, compared}
+use Rattle.kernel.proofs.Lowest.{found}
+use Rattle.kernel.proofs.Messages.{inside}
 use Rattle.kernel.proofs.Over.{over-here, over-part}
-use Rattle.kernel.proofs.Stored.{channel-here, channel-there, session-here, session-there}
-use Rattle.laws_effects.proofs.Sessions.{never-open}
-use Rattle.laws_effects.proofs.Buffers.{write-reading}
 use Rattle.laws_effects.proofs.Free.{free-latest, free-session}
 use Rattle.laws_runs.specs.Trace.{Event, Deed, begins-write, writes, puts, begins-reading}
-use Rattle.laws_runs.specs.Messages.{_did_, log, size-of, written, last-put}
-use Rattle.laws_runs.proofs.Agrees.{Agrees, blank}
-use Rattle.laws_runs.proofs.Beside.{Fewer}
-use Rattle.laws_runs.proofs.Held.{held, held-apart, small, few}
-use Rattle.laws_runs.proofs.Told.{Told, Logged, Unlogged, passed, done}
+use Rattle.laws_runs.specs.Messages.{_did_, log, last-put, written}
+use Rattle.laws_runs.specs.Open.{Open, ends, open-by}
+use Rattle.laws_runs.specs.Run.{event}
+use Rattle.laws_runs.proofs.Changed.{view, left, gets}
+use Rattle.laws_runs.proofs.Buffers.{bytes-in, bytes-apart, sizes, latest-buffer, session-buffer, lowest-unused}
+use Rattle.laws_runs.proofs.Told.{kind, message-in, Carries, Told, carries-other, carries-still, message-still, none-put}
 
--- The buffer of a session.
-same-write : {b x : ℕ} → Write b ≡ Write x → b ≡ x
-same-write e = ap buffer e
+-- A write is that of its buffer, and so is what was put.
+is-write-of : (z : Session) → is-write z ≡ true → z ≡ Write (buffer z)
+is-write-of Closed e = absurd (false≢true e)
+is-write-of (Write b) e = refl
+is-write-of (Reading b) e = absurd (false≢true e)
 
-same-reading : {b x : ℕ} → Reading b ≡ Reading x → b ≡ x
-same-reading e = ap buffer e
+is-put-of : (x : Latest) → put-before x ≡ true → x ≡ Buffer (newest x)
+is-put-of Nothing e = absurd (false≢true e)
+is-put-of (Buffer b) e = refl
 
-module _ {h : List Event} {k : Kernel} {m : List ℕ} (g : Good k) (told : (i : ℕ) → i < channel-count → Told h k m i) where
-  abbrev t : ℕ
-  t = k .running
+-- A session that a test chooses is of the kind that the test chooses.
+kind-chosen : {o : Open} (b : Bool) (z y : Session) → o ≡ kind y → cond b (kind z) o ≡ kind (cond b z y)
+kind-chosen true z y e = refl
+kind-chosen false z y e = e
 
-  runs : t < task-count
+-- The event of a call that is not refused.
+abbrev pub taken : Call → Kernel → List ℕ → Event
+taken c k m = event c (record { kernel = k; memory = m }) (accept (effect c k m))
+
+module _ {h : List Event} {k : Kernel} {m : List ℕ} (g : Good k) (told : Told h (view k) m) where
+  -- The running task, and the message size of a channel.
+  abbrev r : ℕ
+  r = k .running
+
+  runs : r < task-count
   runs = g .runs .running
 
-  -- A call that leaves the memory and the channels, and of the sessions closes some at most.
-  pub quiet : {e : Event} {j : Kernel} → ((i : ℕ) → Unlogged h e i) → Fewer j k → (i : ℕ) → i < channel-count → Told (e ∷ h) j m i
-  quiet unlogged f i l =
-      passed g i l (told i l) (unlogged i) (ap (λ (cs : List Channel). getD cs i unused-channel) (f .channels)) (f .session-is i) (λ b lb. refl)
+  abbrev n : ℕ → ℕ
+  n c = channel k c .size
 
-  -- ---- open
+  -- Sessions may be closed.
+  closed : (c t : ℕ) → t < task-count → (b : Bool) → Carries (n c) (log c h) (bytes-in m c (n c)) t (cond b Closed (session k c t))
+  closed c t l true = tt
+  closed c t l false = told .carries c t l
 
-  -- The channel was unused: nothing was put there, and no session is open.
-  pub opens : {e : Event} (c n b : ℕ) → c < channel-count → channel k c .size ≡ 0 → ((i : ℕ) → log i (e ∷ h) ≡ log i h) → ((i : ℕ) → size-of i (e ∷ h) ≡ cond (eqb c i) n (size-of i h))
-      → (i : ℕ) → i < channel-count → Told (e ∷ h) (with-channel k c (record { size = n; buffers = b; latest = Nothing })) m i
-  opens {e} c n b lc unused log-is size-is i l = go (ℕ-discrete i c)
-    where
-      new : Channel
-      new = record { size = n; buffers = b; latest = Nothing }
+  -- A session that the running task gets is open.
+  gets-open : (c : ℕ) (z : Session) (d t : ℕ) → t < task-count → cond (eqb d c && eqb t r) (kind z) (open-by t d h) ≡ kind (gets k c z .session d t)
+  gets-open c z d t l = kind-chosen (eqb d c && eqb t r) z (session k d t) (told .open-is d t l)
 
-      here : channel (with-channel k c new) c ≡ new
-      here = channel-here (g .sized) c lc new
-
-      go : Dec (i ≡ c) → Told (e ∷ h) (with-channel k c new) m i
-      go (no ne) =
-          passed g i l (told i l) (record { log-is = log-is i; size-is = size-is i ∙ rw (ne-eqb c i (λ z. ne (sym z))) refl }) (channel-there (g .sized) c lc new i ne) (λ u lu. inl refl) (λ x lx. refl)
-      go (yes z) =
-          subst (Told (e ∷ h) (with-channel k c new) m) (sym z)
-          (record {
-            size = ap (λ (x : Channel). x .size) here ∙ sym (size-is c ∙ rw (eq-eqb c c refl) refl);
-            agrees = blank (ap (λ (x : Channel). x .latest) here) (g .channels c lc .unused unused .sessions);
-          })
-
-  -- ---- deeds
-
-  module _ (c : ℕ) (u : ChannelInUse k c) where
-    abbrev n : ℕ
-    n = channel k c .size
-
-    a : Agrees n (log c h) (channel k c .latest) (session k c) (held m c n)
-    a = told c (u .0) .agrees
-
-    -- The running task gets the session z.
-    here : (z : Session) → session (with-own k c z) c t ≡ z
-    here z = session-here (g .sized) c (u .0) t runs z
-
-    there : (z : Session) (i v : ℕ) → v < task-count → ((i ≡ c) × (v ≡ t) → ⊥) → session (with-own k c z) i v ≡ session k i v
-    there z i v lv ne = session-there (g .sized) c (u .0) t runs z i v lv ne
-
-    -- **Close** ends the reading.
-    pub closes : Fewer (with-own k c Closed) k
-    closes = record { channels = refl; session-is = λ i v lv. go i v lv (ℕ-discrete i c) (ℕ-discrete v t) }
+  -- The running task does x on channel c, and the memory becomes m′.
+  module _ (c : ℕ) (x : Deed) (m′ : List ℕ) where
+    -- It has the session z there. The buffers of all other sessions stay.
+    deed : (z : Session) → Carries (n c) (r did x ∷ log c h) (bytes-in m′ c (n c)) r z
+        → ((d t b : ℕ) → t < task-count → ((d ≡ c) × (t ≡ r) → ⊥) → Opens (session k d t) b → bytes-in m′ d (n d) b ≡ bytes-in m d (n d) b)
+        → (d t : ℕ) → t < task-count → Carries (n d) (cond (eqb d c) (r did x ∷ []) [] ++ log d h) (bytes-in m′ d (n d)) t (gets k c z .session d t)
+    deed z own-holds kept d t l =
+        compared (λ b. Carries (n d) (cond b (r did x ∷ []) [] ++ log d h) (bytes-in m′ d (n d)) t (cond (b && eqb t r) z (session k d t))) d c
+        (λ e.
+        compared (λ b. Carries (n d) (r did x ∷ log d h) (bytes-in m′ d (n d)) t (cond b z (session k d t))) t r (λ q. rw (e, q) own-holds)
+        (λ ne. carries-other (n d) t r ne (log d h) x (bytes-in m′ d (n d)) (session k d t) (still (λ p. ne (p .1)))))
+        (λ ne. still (λ p. ne (p .0)))
       where
-        go : (i v : ℕ) → v < task-count → Dec (i ≡ c) → Dec (v ≡ t) → (session (with-own k c Closed) i v ≡ session k i v) ⊎ (session (with-own k c Closed) i v ≡ Closed)
-        go i v lv (yes p) (yes q) = inr (rw (p, q) (here Closed))
-        go i v lv (yes p) (no ne) = inl (there Closed i v lv (λ z. ne (z .1)))
-        go i v lv (no ne) q = inl (there Closed i v lv (λ z. ne (z .0)))
+        still : ((d ≡ c) × (t ≡ r) → ⊥) → Carries (n d) (log d h) (bytes-in m′ d (n d)) t (session k d t)
+        still ne = carries-still (n d) (log d h) (bytes-in m d (n d)) (bytes-in m′ d (n d)) t (session k d t) (λ b. kept d t b l ne) (told .carries d t l)
 
-    -- **Begin reading** holds the latest buffer.
-    pub reads : {e : Event} (b : ℕ) → channel k c .latest ≡ Buffer b → Logged h e c t begins-reading → (i : ℕ) → i < channel-count → Told (e ∷ h) (with-own k c (Reading b)) m i
-    reads b latest logged =
-        done g told logged
-        (record {
-          size = refl;
-          latest = a .latest;
-          write = λ x q. absurd (write-reading q (here (Reading b)));
-          reading = λ x q. rw (eq-eqb t t refl) (a .latest x (latest ∙ ap Buffer (same-reading (sym (here (Reading b)) ∙ q))));
-          others = λ v lv ne. there (Reading b) c v lv (λ z. ne (z .1));
-          kept = λ v x lv ne o. refl;
-          elsewhere = λ i ne. refl;
-          sessions-elsewhere = λ i v ne lv. there (Reading b) i v lv (λ z. ne (z .0));
-          held-elsewhere = λ i x s ne lx ls. refl;
-        })
+    -- It is no put, and the latest buffers stay.
+    no-put : ((d : ℕ) → last-put (n d) (r did x ∷ log d h) ≡ last-put (n d) (log d h)) → ((d b : ℕ) → channel k d .latest ≡ Buffer b → bytes-in m′ d (n d) b ≡ bytes-in m d (n d) b)
+        → (d : ℕ) → last-put (n d) (cond (eqb d c) (r did x ∷ []) [] ++ log d h) ≡ message-in (channel k d .latest) (bytes-in m′ d (n d))
+    no-put unput kept d =
+        either (λ l. last-put (n d) (l ++ log d h) ≡ last-put (n d) (log d h)) (eqb d c) (λ e. unput d) (λ e. refl)
+        ∙ told .latest d
+        ∙ message-still (channel k d .latest) (kept d)
 
-    good : GoodChannel k c
-    good = g .channels c (u .0)
+  -- The running task has its own session.
+  own-has : (c d t : ℕ) → gets k c (own k c) .session d t ≡ session k d t
+  own-has c d t =
+      compared (λ b. cond (b && eqb t r) (own k c) (session k d t) ≡ session k d t) d c
+      (λ e. compared (λ b. cond b (own k c) (session k d t) ≡ session k d t) t r (λ q. rw (e, q) refl) (λ ne. refl)) (λ ne. refl)
 
-    -- Bytes go into buffer b, which is then that of the running task's write, and is neither the latest nor another task's.
-    module _ (b : ℕ) (lb : b < channel k c .buffers) (not-latest : channel k c .latest ≡ Buffer b → ⊥)
-        (not-another's : (v : ℕ) → v < task-count → (v ≡ t → ⊥) → Opens (session k c v) b → ⊥) (size : OfItsSize m) where
-      below : b < most-buffers
-      below = omega (arith, few g c (u .0))
+  -- What it has written is in the buffer of its write.
+  own-written : (c : ℕ) → is-write (own k c) ≡ true → written (n c) r (log c h) ≡ bytes-in m c (n c) (buffer (own k c))
+  own-written c w = subst (Carries (n c) (log c h) (bytes-in m c (n c)) r) (is-write-of (own k c) w) (told .carries c r runs)
 
-      inside : place c b + n ≤ length m
-      inside = omega (arith, size, small g c (u .0), place-inside c b (u .0) below)
+  -- Bytes go into buffer b of channel c, which is neither the latest nor another task's, and the running task then has the session z.
+  module _ (size : OfItsSize m) (c b p : ℕ) (bs : List ℕ) (x : Deed) (z : Session) where
+    abbrev m′ : List ℕ
+    m′ = over m p bs
 
-      fills : {e : Event} {d : Deed} {j : Kernel} (p : ℕ) (bs : List ℕ) → place c b ≤ p → p + length bs ≤ place c b + n → Logged h e c t d
-          → ((i : ℕ) → channel j i ≡ channel k i) → session j c t ≡ Write b → ((i v : ℕ) → v < task-count → ((i ≡ c) × (v ≡ t) → ⊥) → session j i v ≡ session k i v)
-          → last-put n (t did d ∷ log c h) ≡ last-put n (log c h) → written n t (t did d ∷ log c h) ≡ held (over m p bs) c n b
-          → (i : ℕ) → i < channel-count → Told (e ∷ h) j (over m p bs) i
-      fills p bs from to logged channels mine others put-is written-is =
-          done g told logged
-          (record {
-            size = ap (λ (x : Channel). x .size) (channels c);
-            latest = λ x q.
-                let l : channel k c .latest ≡ Buffer x = sym (ap (λ (y : Channel). y .latest) (channels c)) ∙ q in
-                put-is ∙ a .latest x l ∙ ap some (sym (apart c x n (omega (arith, few g c (u .0), good .latest x l)) (small g c (u .0)) (λ z. not-latest (l ∙ ap Buffer (sym (z .1))))));
-            write = λ x q. written-is ∙ ap (held (over m p bs) c n) (same-write (sym mine ∙ q));
-            reading = λ x q. absurd (write-reading mine q);
-            others = λ v lv ne. others c v lv (λ z. ne (z .1));
-            kept = λ v x lv ne o.
-                apart c x n (omega (arith, few g c (u .0), good .sessions v x lv o .named)) (small g c (u .0))
-                (λ z. not-another's v lv ne (subst (Opens (session k c v)) (sym (z .1)) o));
-            elsewhere = λ i ne. channels i;
-            sessions-elsewhere = λ i v ne lv. others i v lv (λ z. ne (z .0));
-            held-elsewhere = λ i x s ne lx ls. apart i x s lx ls (λ z. ne (sym (z .0)));
-          })
-        where
-          apart : (i x s : ℕ) → x < most-buffers → s ≤ longest-message → ((c ≡ i) × (b ≡ x) → ⊥) → held (over m p bs) i s x ≡ held m i s x
-          apart i x s lx ls differ = held-apart m size c b p bs (u .0) below from (omega (arith, small g c (u .0))) i x s lx ls differ
+    fills : c < channel-count → b < channel k c .buffers → (channel k c .latest ≡ Buffer b → ⊥)
+        → ((t : ℕ) → t < task-count → (t ≡ r → ⊥) → Opens (session k c t) b → ⊥)
+        → buffer-start c b ≤ p → p + length bs ≤ buffer-start c b + n c
+        → ((d : ℕ) → last-put (n d) (r did x ∷ log d h) ≡ last-put (n d) (log d h)) → Carries (n c) (r did x ∷ log c h) (bytes-in m′ c (n c)) r z
+        → ((d : ℕ) → last-put (n d) (cond (eqb d c) (r did x ∷ []) [] ++ log d h) ≡ message-in (channel k d .latest) (bytes-in m′ d (n d)))
+        × ((d t : ℕ) → t < task-count → Carries (n d) (cond (eqb d c) (r did x ∷ []) [] ++ log d h) (bytes-in m′ d (n d)) t (gets k c z .session d t))
+    fills lc lb not-latest not-another's from to unput own-holds = (
+      no-put c x m′ unput (λ d y e. apart d y (latest-buffer g d y e) (λ q. not-latest (rw (q .0, q .1) e))),
+      deed c x m′ z own-holds (λ d t y l ne o. apart d y (session-buffer g d t y l o) (λ q. not-another's t l (λ e. ne (sym (q .0), e)) (rw (q .0, q .1) o))),
+    )
+      where
+        apart : (d y : ℕ) → y < most-buffers → ((c ≡ d) × (b ≡ y) → ⊥) → bytes-in m′ d (n d) y ≡ bytes-in m d (n d) y
+        apart d y ly differ = bytes-apart m size c b p bs lc (omega (arith, sizes g c .1)) from (omega (arith, sizes g c .0)) d y (n d) ly (sizes g d .0) differ
 
-    -- **Begin write** takes a free buffer and clears its message.
-    pub begins : {e : Event} (b : ℕ) → b < channel k c .buffers → free-buffer k c b ≡ true → OfItsSize m → Logged h e c t begins-write → (i : ℕ) → i < channel-count
-        → Told (e ∷ h) (with-own k c (Write b)) (over m (place c b) (replicate n 0)) i
-    begins b lb free size logged =
-        let not-another's : (v : ℕ) → v < task-count → (v ≡ t → ⊥) → Opens (session k c v) b → ⊥ = λ v lv ne. free-session k c b free v lv in
-        let zeros : List ℕ = replicate n 0 in
-        let size-is : length zeros ≡ n = length-replicate n 0 in
-        let room = inside b lb (free-latest k c b free) not-another's size in
-        let cleared : held (over m (place c b) zeros) c n b ≡ zeros =
-        subst (λ (s : ℕ). held (over m (place c b) zeros) c s b ≡ zeros) size-is (over-here m (place c b) zeros (omega arith)) in
-        fills b lb (free-latest k c b free) not-another's size (place c b) zeros (omega arith) (omega arith) logged (λ i. refl) (here (Write b)) (there (Write b)) refl
-        (rw (eq-eqb t t refl) (sym cleared))
+  -- **Open**: the channel was unused, so nothing was put there and no session is open.
+  opens : (s b : ℕ) → ChannelAllowed (open-channel s b) k m → Told (taken (on-channel (open-channel s b)) k m ∷ h) (left k (on-channel (open-channel s b))) m
+  unfolding effect
+  opens s b al =
+      let c = lowest-channel k in
+      let unused : (d : ℕ) → eqb c d ≡ true → Unused k d = λ d e. subst (Unused k) (eqb-true c d e) (lowest-unused g (al .2) .1) in
+      record {
+        size = λ d. ap (cond (eqb c d) s) (told .size d);
+        latest = λ d.
+            either (λ y. last-put y (log d h) ≡ message-in (channel k d .latest) (bytes-in m d y)) (eqb c d)
+            (λ e. rw (unused d e .latest) (none-put (n d) s (log d h) (rw (unused d e .latest) at (told .latest d)))) (λ e. told .latest d);
+        carries = λ d t l. either (λ y. Carries y (log d h) (bytes-in m d y) t (session k d t)) (eqb c d) (λ e. rw (unused d e .sessions t l) tt) (λ e. told .carries d t l);
+        open-is = told .open-is;
+      }
 
-    module _ (b : ℕ) (writer : own k c ≡ Write b) where
-      -- **A piece** writes bytes at an offset.
-      pub writes-piece : {e : Event} (f : ℕ) (bs : List ℕ) → OfItsSize m → f + length bs ≤ n → Logged h e c t (writes f bs) → (i : ℕ) → i < channel-count
-          → Told (e ∷ h) k (over m (place c b + f) bs) i
-      writes-piece f bs size fits logged =
-          let lb = good .sessions t b runs (inl writer) .named in
-          let room = inside b lb (good .not-latest t b runs writer) not-another's size in
-          fills b lb (good .not-latest t b runs writer) not-another's size (place c b + f) bs (omega arith) (omega arith) logged (λ i. refl) writer (λ i v lv ne. refl) refl
-          (rw (eq-eqb t t refl) (ap (λ (y : List ℕ). over y f bs) (a .write t b runs writer) ∙ sym (over-part m (place c b) n f bs fits room)))
-        where
-          not-another's : (v : ℕ) → v < task-count → (v ≡ t → ⊥) → Opens (session k c v) b → ⊥
-          not-another's v lv ne (inl q) = ne (good .one-writer v t b lv runs q writer)
-          not-another's v lv ne (inr q) = good .not-read t v b runs lv writer q
+  channel-tells : (c : OnChannel) → ChannelAllowed c k m → Told (taken (on-channel c) k m ∷ h) (left k (on-channel c)) (channel-effect c k m .memory)
+  unfolding effect Channels.cleared Channels.written lowest-buffer
+  channel-tells (open-channel s b) al = opens s b al
+  channel-tells (begin-write c) al =
+      let b = lowest-buffer k c in
+      let free = found (channel k c .buffers) (free-buffer k c) (al .3) in
+      let zeros : List ℕ = replicate (n c) 0 in
+      let long : length zeros ≡ n c = length-replicate (n c) 0 in
+      let room : buffer-start c b + n c ≤ length m = omega (arith, al .0, inside g c (al .1) b (free .0)) in
+      let cleared : bytes-in (over m (buffer-start c b) zeros) c (n c) b ≡ zeros =
+      subst (λ (y : ℕ). bytes-in (over m (buffer-start c b) zeros) c y b ≡ zeros) long (over-here m (buffer-start c b) zeros (omega arith)) in
+      let f = fills (al .0) c b (buffer-start c b) zeros begins-write (Write b) (al .1 .0) (free .0) (free-latest k c b (free .1)) (λ t l ne. free-session k c b (free .1) t l) (omega arith) (omega arith)
+      (λ d. refl) (rw (eq-eqb r r refl) (sym cleared)) in
+      record { size = told .size; latest = f .0; carries = f .1; open-is = gets-open c (Write b) }
+  channel-tells (piece c a bs) al =
+      let b = buffer (own k c) in
+      let writer = is-write-of (own k c) (al .2) in
+      let good = g .channels c (al .1 .0) in
+      let lb = good .sessions r b runs (inl writer) .named in
+      let room : buffer-start c b + n c ≤ length m = omega (arith, al .0, inside g c (al .1) b lb) in
+      let f = fills (al .0) c b (buffer-start c b + a) bs (writes a bs) (own k c) (al .1 .0) lb (good .not-latest r b runs writer)
+      (λ t l ne. ⊎-elim (λ q. ne (good .one-writer t r b l runs q writer)) (λ q. good .not-read r t b runs l writer q)) (omega arith) (omega (arith, al .3)) (λ d. refl)
+      (rw writer (rw (eq-eqb r r refl) (ap (λ (y : List ℕ). over y a bs) (own-written c (al .2)) ∙ sym (over-part m (buffer-start c b) (n c) a bs (al .3) room)))) in
+      record {
+        size = told .size;
+        latest = f .0;
+        carries = λ d t l. rw (← own-has c d t) (f .1 d t l);
+        open-is = told .open-is;
+      }
+  channel-tells (put c) al =
+      record {
+        size = told .size;
+        latest = λ d.
+            compared (λ b. last-put (n d) (cond b (r did puts ∷ []) [] ++ log d h) ≡ message-in (cond b (Buffer (buffer (own k c))) (channel k d .latest)) (bytes-in m d (n d))) d c
+            (λ e. rw e (ap some (own-written c (al .2)))) (λ ne. told .latest d);
+        carries = deed c puts m Closed tt (λ d t b l ne o. refl);
+        open-is = gets-open c Closed;
+      }
+  channel-tells (begin-reading c) al =
+      let z = Reading (newest (channel k c .latest)) in
+      record {
+        size = told .size;
+        latest = no-put c begins-reading m (λ d. refl) (λ d b e. refl);
+        carries = deed c begins-reading m z (rw (eq-eqb r r refl) (told .latest c ∙ ap (λ (y : Latest). message-in y (bytes-in m c (n c))) (is-put-of (channel k c .latest) (al .3)))) (λ d t b l ne o. refl);
+        open-is = gets-open c z;
+      }
+  channel-tells (showing c) al = record { size = told .size; latest = told .latest; carries = told .carries; open-is = told .open-is }
+  channel-tells (close c) al =
+      record {
+        size = told .size;
+        latest = told .latest;
+        carries = λ d t l. closed d t l (eqb d c && eqb t r);
+        open-is = gets-open c Closed;
+      }
+  channel-tells (screen c text) al = record { size = told .size; latest = told .latest; carries = told .carries; open-is = told .open-is }
 
-      -- **Put** makes the buffer the latest and ends the session.
-      abbrev with-latest : Channel
-      with-latest = record { size = n; buffers = channel k c .buffers; latest = Buffer b }
-
-      latest-here : channel (with-channel (with-own k c Closed) c with-latest) c ≡ with-latest
-      latest-here = channel-here (g .sized) c (u .0) with-latest
-
-      pub publishes : {e : Event} → Logged h e c t puts → (i : ℕ) → i < channel-count → Told (e ∷ h) (with-channel (with-own k c Closed) c with-latest) m i
-      publishes logged =
-          done g told logged
-          (record {
-            size = ap (λ (x : Channel). x .size) latest-here;
-            latest = λ x q. ap some (a .write t x runs (writer ∙ ap Write (ap newest (sym (ap (λ (y : Channel). y .latest) latest-here) ∙ q))));
-            write = λ x q. absurd (never-open (inl q) (here Closed));
-            reading = λ x q. absurd (never-open (inr q) (here Closed));
-            others = λ v lv ne. there Closed c v lv (λ z. ne (z .1));
-            kept = λ v x lv ne o. refl;
-            elsewhere = λ i ne. channel-there (g .sized) c (u .0) with-latest i ne;
-            sessions-elsewhere = λ i v ne lv. there Closed i v lv (λ z. ne (z .0));
-            held-elsewhere = λ i x s ne lx ls. refl;
-          })
+  -- **tells**: an accepted call keeps the channels and the memory what the trace tells.
+  pub tells : (c : Call) → Allowed c k m → Told (taken c k m ∷ h) (left k c) (effect c k m .memory)
+  unfolding effect
+  tells (verb v) al =
+      record {
+        size = told .size;
+        latest = told .latest;
+        carries = λ c t l. closed c t l (ends t r v);
+        open-is = λ c t l. kind-chosen (ends t r v) Closed (session k c t) (told .open-is c t l);
+      }
+  tells (question q) al = record { size = told .size; latest = told .latest; carries = told .carries; open-is = told .open-is }
+  tells (on-channel c) al = channel-tells c al

@@ -5,6 +5,7 @@ use mathlib.Core.List.{List, [], _∷_, _++_, reverse}
 use mathlib.Core.Option.{Option, some}
 use Prim.Native.Nat.{ℕ, suc}
 use lib.ListN.{length}
+use Rattle.kernel.specs.Sizes.{fitting}
 use Rattle.kernel.specs.Kernel.{share, lowest}
 use Rattle.kernel.specs.Moves.{move, dispatch, preempt, schedule}
 use Rattle.kernel.specs.Tick as Tick
@@ -21,7 +22,7 @@ use Rattle.laws_runs.specs.Example.{events, calls, memory}
 
 -- **example**: the model's run of its calls.
 pub example : trace step memory calls ≡ reverse events
-unfolding after trace fresh step effect share lowest move dispatch preempt schedule Tick.free Tick.wake Tick.free-zombies Tick.wake-idle Tick.tick Tasks.lowest-free Tasks.create Tasks.activate Tasks.sleep Tasks.cycle Tasks.close-sessions Tasks.finish Tasks.end Tasks.kill Channels.some-session Channels.lowest-buffer Channels.lowest-channel Channels.open-channel Channels.begin-write Channels.cleared Channels.written Channels.put Channels.begin-reading Channels.close
+unfolding after trace fresh step effect fitting share lowest move dispatch preempt schedule Tick.free Tick.wake Tick.free-zombies Tick.wake-idle Tick.tick Tasks.lowest-free Tasks.create Tasks.activate Tasks.sleep Tasks.cycle Tasks.close-sessions Tasks.finish Tasks.end Tasks.kill Channels.some-session Channels.lowest-buffer Channels.lowest-channel Channels.open-channel Channels.begin-write Channels.cleared Channels.written Channels.put Channels.begin-reading Channels.close
 example = refl
 
 -- ---- what it meets

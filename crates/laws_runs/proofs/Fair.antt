@@ -1,7 +1,7 @@
 -- First joined, first taken, over every run of the model. Assumes nothing.
 use mathlib.Core.List.{List, [], _∷_, _++_}
 use Prim.Native.Nat.{ℕ}
-use Rattle.kernel.specs.Status.{ready}
+use Rattle.kernel.specs.Status.{ready-queue}
 use Rattle.kernel.specs.Kernel.{queue}
 use Rattle.kernel.specs.Calls.{Call}
 use Rattle.kernel.specs.Step.{step}
@@ -23,7 +23,7 @@ module _ (m : List ℕ) where
 
   module _ (x y : ℕ) (cs : List Call) (c : Call) where
     -- In the order of joining, ever since.
-    stand : (ds : List Call) → JoinedFirst step m x y cs c ds → Before x y (queue (kernel-after step m (ds ++ c ∷ cs)) ready)
+    stand : (ds : List Call) → JoinedFirst step m x y cs c ds → Before x y (queue (kernel-after step m (ds ++ c ∷ cs)) ready-queue)
     stand [] j = next-fair c cs .joins x y (j .was-ready) (j .not-yet) (j .first-since) (j .second-since) (j .no-later)
     stand (d ∷ ds) j =
         let hx = j .first-since in

@@ -7,14 +7,14 @@ use Rattle.kernel.specs.Kernel.{lowest}
 use Rattle.kernel.specs.Moves.{move, dispatch, preempt, schedule}
 use Rattle.kernel.specs.Tick as Tick
 use Rattle.kernel.specs.Tasks as Tasks
-use Rattle.kernel.specs.Calls.{create-nrt, activate, tick, effect}
+use Rattle.kernel.specs.Calls.{tick, create-nrt, activate, verb, effect}
 use Rattle.kernel.specs.Step.{step}
 use Rattle.kernel.specs.Fresh.{fresh}
 use Rattle.laws_runs.specs.Run.{after}
 use Rattle.laws_runs.specs.Fair.{JoinedFirst}
 
 -- Task 1 runs; task 2 joins ready, then task 3, both NRT of its priority; then there is a tick.
-pub joined-first : (m : List ℕ) → JoinedFirst step m 2 3 (activate 2 ∷ activate 1 ∷ create-nrt 3 ∷ create-nrt 3 ∷ create-nrt 3 ∷ []) (activate 3) (tick ∷ [])
+pub joined-first : (m : List ℕ) → JoinedFirst step m 2 3 (verb (activate 2) ∷ verb (activate 1) ∷ verb (create-nrt 3) ∷ verb (create-nrt 3) ∷ verb (create-nrt 3) ∷ []) (verb (activate 3)) (verb tick ∷ [])
 unfolding after fresh step effect lowest move dispatch preempt schedule Tick.free-zombies Tick.wake-idle Tick.tick Tasks.lowest-free Tasks.create Tasks.activate
 joined-first m =
     record {

@@ -10,9 +10,9 @@ use Rattle.kernel.specs.Kernel.{lowest}
 use Rattle.kernel.specs.Moves.{move, dispatch, preempt, schedule}
 use Rattle.kernel.specs.Tasks as Tasks
 use Rattle.kernel.specs.Channels as Channels
-use Rattle.kernel.specs.Calls.{showing, effect}
+use Rattle.kernel.specs.Channels.{same-bytes}
+use Rattle.kernel.specs.Calls.{showing, on-channel, effect}
 use Rattle.kernel.specs.Fresh.{fresh}
-use Rattle.kernel.specs.Bench.{same-bytes}
 use Rattle.laws_runs.specs.Trace.{Event, accepted}
 use Rattle.laws_runs.specs.Messages.{log, size-of, opened}
 use Rattle.laws_runs.specs.Whole.{Whole}
@@ -28,6 +28,7 @@ same (some x) none = false
 same (some x) (some y) = same-bytes x y
 
 itself : (x : List ℕ) → same-bytes x x ≡ true
+unfolding same-bytes
 itself [] = refl
 itself (x ∷ xs) = rw (eq-eqb x x refl) (itself xs)
 
@@ -42,7 +43,7 @@ module _ (x : Case) where
   before = trace (cheating (x .fraud)) (x .memory) (x .calls)
 
   abbrev last : Event
-  last = let w = after (cheating (x .fraud)) (x .memory) (x .calls) in event (showing 0) w (cheating (x .fraud) (showing 0) (handed w))
+  last = let w = after (cheating (x .fraud)) (x .memory) (x .calls) in event (on-channel (showing 0)) w (cheating (x .fraud) (on-channel (showing 0)) (handed w))
 
   abbrev asked-for : Option (List ℕ)
   asked-for = opened (size-of 0 before) (last .who) (log 0 before)
@@ -76,5 +77,5 @@ all-refuted (x ∷ xs) e = let c = and-eq-true-iff (caught x) (all-caught xs) .0
 
 -- **frauds-refuted**
 pub frauds-refuted : Refuted cases
-unfolding cases first-message zeros no-message early overwritten old-bytes cheating shows-first shows-zeros shows-nothing publishes-early takes-read-buffer keeps-old-bytes after trace fresh effect lowest move dispatch preempt schedule Tasks.lowest-free Tasks.create Tasks.activate Tasks.sleep Channels.some-session Channels.lowest-buffer Channels.lowest-channel Channels.open-channel Channels.begin-write Channels.cleared Channels.written Channels.put Channels.begin-reading
+unfolding cases first-message zeros no-message early overwritten old-bytes cheating shows-first shows-zeros shows-nothing publishes-early takes-read-buffer keeps-old-bytes same-bytes after trace fresh effect lowest move dispatch preempt schedule Tasks.lowest-free Tasks.create Tasks.activate Tasks.sleep Channels.some-session Channels.lowest-buffer Channels.lowest-channel Channels.open-channel Channels.begin-write Channels.cleared Channels.written Channels.put Channels.begin-reading
 frauds-refuted = all-refuted cases refl

@@ -2,7 +2,7 @@
 use mathlib.Core.Path.{_≡_}
 use mathlib.Core.List.{List, [], _∷_, _++_}
 use Prim.Native.Nat.{ℕ, _≤_}
-use Rattle.kernel.specs.Status.{ready}
+use Rattle.kernel.specs.Status.{ready-queue}
 use Rattle.kernel.specs.Kernel.{Kernel, task, queue}
 use Rattle.kernel.specs.Calls.{Call}
 use Rattle.kernel.specs.Refusals.{Handed}
@@ -32,7 +32,7 @@ module _ (step : Call → Handed → Outcome) (m : List ℕ) where
   -- After the calls cs task x goes before task y:
   pub record TakenFirst (x y : ℕ) (cs : List Call) : Type 0 where
     -- x stands before y in ready;
-    pub stands : Before x y (queue (kernel-after cs) ready)
+    pub stands : Before x y (queue (kernel-after cs) ready-queue)
     -- whatever is called next, y does not get the processor.
     pub taken : (d : Call) → kernel-after (d ∷ cs) .running ≡ y → ⊥
 

@@ -9,9 +9,9 @@ use Rattle.kernel.specs.declared.Session.the-variants.{Write}
 use Rattle.kernel.specs.Sizes.{task-count, memory-size}
 use Rattle.kernel.specs.Kernel.{Kernel, channel, lowest, with-channel}
 use Rattle.kernel.specs.Channels as Channels
-use Rattle.kernel.specs.Channels.{place, over, own, with-own, buffer, put-before, is-latest, some-session}
+use Rattle.kernel.specs.Channels.{buffer-start, over, own, with-own, buffer, put-before, is-latest, some-session}
 use Rattle.kernel.specs.Calls as Calls
-use Rattle.kernel.specs.Calls.{Call, create-nrt, activate, sleep, open-channel, begin-write, piece, put, begin-reading, showing, Shown, part, Effect, effect}
+use Rattle.kernel.specs.Calls.{create-nrt, activate, sleep, open-channel, begin-write, piece, put, begin-reading, showing, Call, verb, on-channel, Shown, part, Effect, effect}
 use Rattle.kernel.specs.Refusals.{Handed, first, rows}
 use Rattle.kernel.specs.Step.{Outcome, by-table}
 use Rattle.laws_runs.specs.Trace.{Event, Ask, new, does, message, nothing, begins-write, writes, puts, begins-reading, asks}
@@ -50,7 +50,7 @@ shows-first nothing h e = e
 unfoldable pub shows-zeros : Fraud
 shows-zeros (new n) h e = e
 shows-zeros (does c d) h e = e
-shows-zeros (message c text) h e = with-shown e (part (place 3 7) (channel (h .kernel) c .size))
+shows-zeros (message c text) h e = with-shown e (part (buffer-start 3 7) (channel (h .kernel) c .size))
 shows-zeros nothing h e = e
 
 -- A showing is accepted and shows nothing.
@@ -83,7 +83,7 @@ takes-read-buffer (new n) h e = e
 takes-read-buffer (does c begins-write) h e =
     let k = h .kernel in
     let b = unwatched k c in
-    with-memory (with-kernel e (with-own k c (Write b))) (over (h .memory) (place c b) (replicate (channel k c .size) 0))
+    with-memory (with-kernel e (with-own k c (Write b))) (over (h .memory) (buffer-start c b) (replicate (channel k c .size) 0))
 takes-read-buffer (does c (writes a bs)) h e = e
 takes-read-buffer (does c puts) h e = e
 takes-read-buffer (does c begins-reading) h e = e
@@ -112,31 +112,31 @@ pub record Case : Type 0 where
   pub due : Option (List ℕ)
 
 abbrev pub run : Case → List Event
-run x = trace (cheating (x .fraud)) (x .memory) (showing 0 ∷ x .calls)
+run x = trace (cheating (x .fraud)) (x .memory) (on-channel (showing 0) ∷ x .calls)
 
 -- Before the first call the message memory may hold anything.
 abbrev full-of : ℕ → List ℕ
 full-of byte = replicate memory-size byte
 
 abbrev write : List ℕ → List Call
-write bs = put 0 ∷ piece 0 0 bs ∷ begin-write 0 ∷ []
+write bs = on-channel (put 0) ∷ on-channel (piece 0 0 bs) ∷ on-channel (begin-write 0) ∷ []
 
 -- The main task puts 1, 2 and then 5, 6, in messages of four bytes.
 abbrev two-puts : List Call
-two-puts = write (5 ∷ 6 ∷ []) ++ (write (1 ∷ 2 ∷ []) ++ (create-nrt 1 ∷ open-channel 4 3 ∷ []))
+two-puts = write (5 ∷ 6 ∷ []) ++ (write (1 ∷ 2 ∷ []) ++ (verb (create-nrt 1) ∷ on-channel (open-channel 4 3) ∷ []))
 
 abbrev message-of : ℕ → ℕ → Option (List ℕ)
 message-of a b = some (a ∷ b ∷ 0 ∷ 0 ∷ [])
 
 -- It opens a reading.
 unfoldable pub first-message : Case
-first-message = record { fraud = shows-first; memory = full-of 7; calls = begin-reading 0 ∷ two-puts; shown = message-of 1 2; due = message-of 5 6 }
+first-message = record { fraud = shows-first; memory = full-of 7; calls = on-channel (begin-reading 0) ∷ two-puts; shown = message-of 1 2; due = message-of 5 6 }
 
 unfoldable pub zeros : Case
-zeros = record { fraud = shows-zeros; memory = full-of 0; calls = begin-reading 0 ∷ two-puts; shown = message-of 0 0; due = message-of 5 6 }
+zeros = record { fraud = shows-zeros; memory = full-of 0; calls = on-channel (begin-reading 0) ∷ two-puts; shown = message-of 0 0; due = message-of 5 6 }
 
 unfoldable pub no-message : Case
-no-message = record { fraud = shows-nothing; memory = full-of 7; calls = begin-reading 0 ∷ two-puts; shown = none; due = message-of 5 6 }
+no-message = record { fraud = shows-nothing; memory = full-of 7; calls = on-channel (begin-reading 0) ∷ two-puts; shown = none; due = message-of 5 6 }
 
 -- It writes 9, and before it puts that, task 1 opens a reading.
 unfoldable pub early : Case
@@ -144,7 +144,7 @@ early =
     record {
       fraud = publishes-early;
       memory = full-of 7;
-      calls = begin-reading 0 ∷ activate 1 ∷ piece 0 0 (9 ∷ []) ∷ begin-write 0 ∷ two-puts;
+      calls = on-channel (begin-reading 0) ∷ verb (activate 1) ∷ on-channel (piece 0 0 (9 ∷ [])) ∷ on-channel (begin-write 0) ∷ two-puts;
       shown = message-of 9 0;
       due = message-of 5 6;
     }
@@ -155,7 +155,7 @@ overwritten =
     record {
       fraud = takes-read-buffer;
       memory = full-of 7;
-      calls = activate 1 ∷ begin-write 0 ∷ write (9 ∷ []) ++ (sleep ∷ begin-reading 0 ∷ activate 1 ∷ two-puts);
+      calls = verb (activate 1) ∷ on-channel (begin-write 0) ∷ write (9 ∷ []) ++ (verb sleep ∷ on-channel (begin-reading 0) ∷ verb (activate 1) ∷ two-puts);
       shown = message-of 0 0;
       due = message-of 5 6;
     }
@@ -166,7 +166,7 @@ old-bytes =
     record {
       fraud = keeps-old-bytes;
       memory = full-of 0;
-      calls = begin-reading 0 ∷ put 0 ∷ begin-write 0 ∷ write (5 ∷ 6 ∷ []) ++ (write (1 ∷ 2 ∷ []) ++ (open-channel 4 2 ∷ []));
+      calls = on-channel (begin-reading 0) ∷ on-channel (put 0) ∷ on-channel (begin-write 0) ∷ write (5 ∷ 6 ∷ []) ++ (write (1 ∷ 2 ∷ []) ++ (on-channel (open-channel 4 2) ∷ []));
       shown = message-of 1 2;
       due = message-of 0 0;
     }

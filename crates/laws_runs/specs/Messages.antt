@@ -6,7 +6,7 @@ use Prim.Native.Nat.{ℕ}
 use lib.IntN.{pos}
 use lib.ListN.{replicate}
 use lib.Dec.{eqb}
-use Rattle.kernel.specs.Answer.{number, same-number}
+use Rattle.kernel.specs.Answer.{same-number}
 use Rattle.kernel.specs.Channels.{over}
 use Rattle.laws_runs.specs.Trace.{Event, accepted, Deed, begins-write, writes, puts, begins-reading, Ask, new, does, message, nothing, asks}
 
@@ -31,7 +31,7 @@ log c (e ∷ h) = cond (accepted e) (acts c (e .who) (asks (e .call))) [] ++ log
 
 -- The accepted call that gives the number of channel c opened it, with this size.
 abbrev pub sized : ℕ → Event → Ask → ℕ → ℕ
-sized c e (new n) before = cond (accepted e && same-number (number (e .answer)) (pos c)) n before
+sized c e (new n) before = cond (accepted e && same-number (e .answer .number) (pos c)) n before
 sized c e (does d x) before = before
 sized c e (message d text) before = before
 sized c e nothing before = before

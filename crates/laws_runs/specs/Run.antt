@@ -1,6 +1,6 @@
 -- A run of the model: calls and ticks in any order, legal and illegal, from the fresh kernel on, each made by whichever task runs.
 -- Assumes nothing.
-use mathlib.Core.Bool.{true}
+use mathlib.Core.Bool.{true, false}
 use mathlib.Core.List.{List, [], _∷_}
 use mathlib.Core.Option.{Option, none, some}
 use Prim.Native.Nat.{ℕ}
@@ -29,10 +29,10 @@ handed w = record { sound = true; kernel = w .kernel; memory = w .memory }
 
 -- The call c, made in w, had the outcome o.
 abbrev pub event : Call → World → Outcome → Event
-event c w o = record { who = w .kernel .running; call = c; answer = o .answer; shown = bytes-of (o .shown) (w .memory) (instead (asks c)) }
+event c w o = record { who = w .kernel .running; call = c; answer = o .answer; shown = bytes-of (o .shown) (w .memory) (instead (asks c)); aside = false }
 
 -- Calls newest first, of a fresh kernel that answers as `step` says and is lent the memory m. Kernel and memory go from call to call
--- unaltered: the one premise of every theorem about runs, and it stands here.
+-- unaltered, so that there are no asides.
 module _ (step : Call → Handed → Outcome) (m : List ℕ) where
   unfoldable pub after : List Call → World
   after [] = record { kernel = fresh; memory = m }

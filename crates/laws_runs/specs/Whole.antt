@@ -1,10 +1,10 @@
 -- **Demand 3** of a trace. Assumes nothing.
 use mathlib.Core.Path.{_≡_}
 use mathlib.Core.Bool.{true}
-use mathlib.Core.List.{List, [], _∷_}
+use mathlib.Core.List.{List}
 use mathlib.Core.Option.{Option, some}
 use Prim.Native.Nat.{ℕ}
-use Rattle.laws_runs.specs.Trace.{Event, accepted, message, asks}
+use Rattle.laws_runs.specs.Trace.{Event, accepted, Throughout, message, asks}
 use Rattle.laws_runs.specs.Messages.{Act, log, size-of, opened}
 
 -- There is such a message, and it was shown, whole.
@@ -12,11 +12,6 @@ pub record Gave (message shown : Option (List ℕ)) : Type 0 where
   pub bytes : List ℕ
   pub message-is : message ≡ some bytes
   pub shown-is : shown ≡ some bytes
-
--- P holds of each event of the trace and what was before it.
-abbrev pub Throughout : (Event → List Event → Type 0) → List Event → Type 0
-Throughout P [] = Unit {0}
-Throughout P (e ∷ h) = P e h × Throughout P h
 
 -- The event e is an accepted showing of channel c, plain or by the screen call.
 pub record Showed (c : ℕ) (e : Event) : Type 0 where

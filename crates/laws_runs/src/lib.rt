@@ -1,1 +1,1 @@
-// Runs of calls and ticks, and the three demands as theorems over them. No function.
+// Runs of the model, their traces, and demand 3 told from the trace. Definitions in specs/, theorems in proofs/; no function.

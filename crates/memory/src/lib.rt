@@ -9,9 +9,9 @@ ghost use Rattle.kernel.specs.Slices.{slice, part-of};
 use kernel::State;
 
 // Where buffer b of channel c starts.
-pub fn place(c: usize, b: usize) -> usize
+pub fn buffer_start(c: usize, b: usize) -> usize
     requires { ⌜ c < channel-count ⌝ ∗ ⌜ b < most-buffers ⌝ }
-    ensures { λ r. ⌜ r ≡ Channels.place c b ⌝ }
+    ensures { λ r. ⌜ r ≡ Channels.buffer-start c b ⌝ }
 {
     State::LONGEST_MESSAGE * (State::MOST_BUFFERS * c + b)
 }

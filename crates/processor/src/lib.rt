@@ -10,7 +10,7 @@ use kernel::Status;
 use kernel::TaskNo;
 
 // Task i gets another status, and goes to its queue.
-pub fn turn(s: State, i: usize, status: Status) -> State
+pub fn restate(s: State, i: usize, status: Status) -> State
     requires { ⌜ Kept s ⌝ ∗ ⌜ i < task-count ⌝ }
     ensures { λ r. ⌜ Shows r (move (seen s) i (with-status (task (seen s) i) status)) ⌝ }
 {
@@ -24,10 +24,10 @@ pub fn dispatch(s: State) -> State
     requires { ⌜ Kept s ⌝ }
     ensures { λ r. ⌜ Shows r (dispatched (seen s)) ⌝ }
 {
-    let x = queues::first(s, State::READY);
+    let x = queues::first(s, State::READY_QUEUE);
     if x < State::TASKS {
         let running = TaskNo(x);
-        let mut r = turn(s, x, Status::Exe);
+        let mut r = restate(s, x, Status::Exe);
         r.running = running;
         return r;
     }
@@ -39,13 +39,13 @@ pub fn schedule(s: State) -> State
     requires { ⌜ Kept s ⌝ ∗ ⌜ s .running .0 < task-count ⌝ }
     ensures { λ r. ⌜ Shows r (scheduled (seen s)) ⌝ }
 {
-    let x = queues::first(s, State::READY);
+    let x = queues::first(s, State::READY_QUEUE);
     if x < State::TASKS {
         let i = s.running.0;
         let first = s.tasks[x];
         let running = s.tasks[i];
         if first.deadline < running.deadline {
-            let a = turn(s, i, Status::Ready);
+            let a = restate(s, i, Status::Ready);
             return dispatch(a);
         }
     }

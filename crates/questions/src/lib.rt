@@ -6,7 +6,7 @@ ghost use Prim.Native.Nat.{ℕ};
 ghost use lib.IntN.{ℤ, pos, _-ℤ_};
 ghost use Rattle.kernel.specs.Kernel.{task, hard, period-of};
 ghost use Rattle.kernel.specs.Calls as Calls;
-ghost use Rattle.kernel.specs.Calls.{Call, effect, told};
+ghost use Rattle.kernel.specs.Calls.{Call, effect, told, question};
 ghost use Rattle.kernel.specs.Refusals.{no-task-in-use};
 ghost use Rattle.kernel.specs.Seen.{seen};
 ghost use Rattle.kernel.specs.Promise.{Unlent};
@@ -22,14 +22,14 @@ fn answer(s: State, v: Verdict, number: i64) -> Reply
 {
     match v {
         Verdict::Refuses(_) => refusals::refuse(s, v),
-        Verdict::Passes => refusals::done(s, number),
+        Verdict::Accepts => refusals::done(s, number),
     }
 }
 
 // ---- clock
 
 pub fn clock(s: State) -> Reply
-    ensures { λ r. ⌜ Unlent Calls.clock s r ⌝ }
+    ensures { λ r. ⌜ Unlent (question Calls.clock) s r ⌝ }
 {
     let verdict = refusals::every_call(s);
     let number = s.clock;
@@ -39,7 +39,7 @@ pub fn clock(s: State) -> Reply
 // ---- status
 
 fn may_ask_status(s: State, n: usize) -> Verdict
-    ensures { λ r. ⌜ Refusal (Calls.status n) s r ⌝ }
+    ensures { λ r. ⌜ Refusal (question (Calls.status n)) s r ⌝ }
 {
     let every = refusals::every_call(s);
     refusals::row(every, State::NO_SUCH_NUMBER, n >= State::TASKS)
@@ -47,7 +47,7 @@ fn may_ask_status(s: State, n: usize) -> Verdict
 
 // The number of a task's status, a FREE record's too.
 pub fn status(s: State, task: TaskNo) -> Reply
-    ensures { λ r. ⌜ Unlent (Calls.status (task .0)) s r ⌝ }
+    ensures { λ r. ⌜ Unlent (question (Calls.status (task .0))) s r ⌝ }
 {
     let n = task.0;
     let verdict = may_ask_status(s, n);
@@ -58,7 +58,7 @@ pub fn status(s: State, task: TaskNo) -> Reply
 // ---- deadline and slack, which have the same rows
 
 fn may_ask(s: State, n: usize) -> Verdict
-    ensures { λ r. ⌜ Refusal (Calls.deadline n) s r ⌝ ∗ ⌜ Refusal (Calls.slack n) s r ⌝ }
+    ensures { λ r. ⌜ Refusal (question (Calls.deadline n)) s r ⌝ ∗ ⌜ Refusal (question (Calls.slack n)) s r ⌝ }
 {
     let every = refusals::every_call(s);
     let unused = refusals::no_task_in_use(s, n);
@@ -77,7 +77,7 @@ fn deadline_of(s: State, n: usize) -> u32
 }
 
 pub fn deadline(s: State, task: TaskNo) -> Reply
-    ensures { λ r. ⌜ Unlent (Calls.deadline (task .0)) s r ⌝ }
+    ensures { λ r. ⌜ Unlent (question (Calls.deadline (task .0))) s r ⌝ }
 {
     let n = task.0;
     let verdict = may_ask(s, n);
@@ -95,7 +95,7 @@ fn slack_of(s: State, n: usize) -> i64
 
 // Deadline minus clock, below zero once the deadline has passed.
 pub fn slack(s: State, task: TaskNo) -> Reply
-    ensures { λ r. ⌜ Unlent (Calls.slack (task .0)) s r ⌝ }
+    ensures { λ r. ⌜ Unlent (question (Calls.slack (task .0))) s r ⌝ }
 {
     let n = task.0;
     let verdict = may_ask(s, n);
@@ -116,7 +116,7 @@ fn no_period(s: State, n: usize) -> bool
 }
 
 fn may_ask_period(s: State, n: usize) -> Verdict
-    ensures { λ r. ⌜ Refusal (Calls.period n) s r ⌝ }
+    ensures { λ r. ⌜ Refusal (question (Calls.period n)) s r ⌝ }
 {
     let every = refusals::every_call(s);
     let nrt = no_period(s, n);
@@ -139,7 +139,7 @@ fn period_of(s: State, n: usize) -> u32
 
 // The period of a HARD task.
 pub fn period(s: State, task: TaskNo) -> Reply
-    ensures { λ r. ⌜ Unlent (Calls.period (task .0)) s r ⌝ }
+    ensures { λ r. ⌜ Unlent (question (Calls.period (task .0))) s r ⌝ }
 {
     let n = task.0;
     let verdict = may_ask_period(s, n);

@@ -11,8 +11,8 @@ use Rattle.kernel.specs.Sizes.{task-count}
 use Rattle.kernel.specs.Status.{queue-count}
 use Rattle.kernel.specs.Kernel.{Kernel, task, queue}
 use Rattle.kernel.specs.Seen.{bare, past, record-at, seen}
-use Rattle.kernel.specs.Good.{place}
-use Rattle.kernel.specs.Sound.{Holds}
+use Rattle.kernel.specs.Good.{standing}
+use Rattle.kernel.specs.Sound.{LinksHold}
 use Rattle.kernel.specs.Shows.{Shows}
 use Rattle.kernel.proofs.Seen.{task-seen}
 
@@ -29,7 +29,7 @@ shows-once {a} {b} {k} lt lq g h =
     λ s w. (sym (length-map (s .tasks) bare) ∙ ap (λ (j : Kernel). length (j .tasks)) (w .is) ∙ lt, sym (length-map (s .heads) _) ∙ ap (λ (j : Kernel). length (j .queues)) (w .is) ∙ lq) in
     let d =
     determined (g .kept .filed)
-    (subst (λ (j : Kernel). Holds b (place j) (queue j)) (sym e) (h .kept .filed))
+    (subst (λ (j : Kernel). LinksHold b (standing j) (queue j)) (sym e) (h .kept .filed))
     (g .kept .queues) in
     let same : (x : ℕ) → x < task-count → record-at (a .tasks) x ≡ record-at (b .tasks) x =
     λ x l. same-record _ _ (sym (task-seen a x) ∙ ap (λ (j : Kernel). task j x) e ∙ task-seen b x) (d .0 x l .0) (d .0 x l .1) in
@@ -40,7 +40,7 @@ shows-once {a} {b} {k} lt lq g h =
       clock = e i .clock;
       stop = e i .stop;
       running = record { 0 = e i .running };
-      share = e i .share;
+      total = e i .total;
       tasks = tasks i;
       heads = heads i;
       semaphores = e i .semaphores;

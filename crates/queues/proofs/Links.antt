@@ -40,8 +40,8 @@ led : (x : ℕ) (link : ℤ) → x < task-count → x ≡ target task-count link
 led x link l e = ap pos e ∙ sym (leads task-count link (omega arith))
 
 module _ (s : State) (q : ℕ) (before after v w : ℤ) where
-  abbrev turned : State
-  turned = relinked s q before after v w
+  abbrev rejoined : State
+  rejoined = relinked s q before after v w
 
   -- The tasks on both sides, if there are any: first the one after is written, then the one before.
   abbrev x : ℕ
@@ -60,7 +60,7 @@ module _ (s : State) (q : ℕ) (before after v w : ℤ) where
   b = let c = record-at us x in record { class = c .class; status = c .status; deadline = c .deadline; next = v; previous = c .previous }
 
   -- The neighbours are turned, and nothing else.
-  pub relinks : (i : ℕ) → length (s .tasks) ≡ task-count → Relinked task-count i before after v w (next-of (s .tasks)) (previous-of (s .tasks)) (next-of (turned .tasks)) (previous-of (turned .tasks))
+  pub relinks : (i : ℕ) → length (s .tasks) ≡ task-count → Relinked task-count i before after v w (next-of (s .tasks)) (previous-of (s .tasks)) (next-of (rejoined .tasks)) (previous-of (rejoined .tasks))
   unfolding relinked with-next with-previous
   relinks i long =
       let ts = s .tasks in
@@ -76,12 +76,12 @@ module _ (s : State) (q : ℕ) (before after v w : ℤ) where
             field-kept (λ (c : Task). c .previous) us x b z refl ∙ ap (λ (c : Task). c .previous) (record-kept ts y a z (λ h l. e (led z after (omega arith) h)));
       }
 
-  pub relinked-bare : map bare (turned .tasks) ≡ map bare (s .tasks)
+  pub relinked-bare : map bare (rejoined .tasks) ≡ map bare (s .tasks)
   unfolding relinked with-next with-previous
   relinked-bare = map-set-same bare us x b past refl ∙ map-set-same bare (s .tasks) y a past refl
 
   -- The head of queue q is turned where nothing stands before the place.
-  pub relinked-head : q < length (s .heads) → head-of (turned .heads) q ≡ new-head task-count before (head-of (s .heads) q) v
+  pub relinked-head : q < length (s .heads) → head-of (rejoined .heads) q ≡ new-head task-count before (head-of (s .heads) q) v
   unfolding relinked with-next with-previous
   relinked-head h = go (ltb (target task-count before) task-count)
     where
@@ -89,7 +89,7 @@ module _ (s : State) (q : ℕ) (before after v w : ℤ) where
       go true = refl
       go false = getD-set-same (s .heads) q v _ h
 
-  pub other-heads : (p : ℕ) → (p ≡ q → ⊥) → head-of (turned .heads) p ≡ head-of (s .heads) p
+  pub other-heads : (p : ℕ) → (p ≡ q → ⊥) → head-of (rejoined .heads) p ≡ head-of (s .heads) p
   unfolding relinked with-next with-previous
   other-heads p ne = go (ltb (target task-count before) task-count)
     where
@@ -97,7 +97,7 @@ module _ (s : State) (q : ℕ) (before after v w : ℤ) where
       go true = refl
       go false = getD-set-other (s .heads) q p v _ ne
 
-  pub relinked-long : length (turned .heads) ≡ length (s .heads)
+  pub relinked-long : length (rejoined .heads) ≡ length (s .heads)
   unfolding relinked with-next with-previous
   relinked-long = go (ltb (target task-count before) task-count)
     where
@@ -106,6 +106,6 @@ module _ (s : State) (q : ℕ) (before after v w : ℤ) where
       go false = length-set (s .heads) q v
 
   -- The rest of the state stays.
-  pub relinked-rest : turned ≡ with-table s (turned .tasks) (turned .heads)
+  pub relinked-rest : rejoined ≡ with-table s (rejoined .tasks) (rejoined .heads)
   unfolding relinked with-next with-previous
   relinked-rest = refl

@@ -11,7 +11,6 @@ use lib.Dec.{leb}
 use borrow.Author.Tests.{lt-ltb, le-ltb}
 use Rattle.laws_chain.specs.Lists.{lead, behind, remove}
 use Rattle.laws_chain.specs.Chain.{end, start, finish}
-use Rattle.laws_chain.specs.Filing.{Queue}
 use Rattle.laws_chain.proofs.Lists.{Absent, all-left, all-right, inserted}
 use Rattle.laws_chain.proofs.Stretch.{found}
 use Rattle.laws_chain.proofs.Splice.{kept as kept-links}
@@ -23,12 +22,12 @@ use Rattle.kernel.specs.Status.{queue-of, queue-count}
 use Rattle.kernel.specs.Kernel.{Bare, Kernel, queue, blank, with-tasks}
 use Rattle.kernel.specs.Moves.{move}
 use Rattle.kernel.specs.Seen.{bare, record-at, head-of, seen}
-use Rattle.kernel.specs.Good.{place, deadline-of}
-use Rattle.kernel.specs.Sound.{Holds}
+use Rattle.kernel.specs.Good.{standing, Queued}
+use Rattle.kernel.specs.Sound.{LinksHold}
 use Rattle.kernel.specs.Shows.{Shows}
 use Rattle.kernel.proofs.Seen.{queue-seen}
 use Rattle.kernel.proofs.Moves as Moves
-use Rattle.queues.specs.Links.{Linked, Place, passes, with-table, relinked, taken-out, filed-in}
+use Rattle.queues.specs.Links.{Linked, Sides, passes, with-table, relinked, taken-out, filed-in}
 use Rattle.queues.proofs.Links.{relinks, relinked-bare, relinked-head, other-heads, relinked-long, relinked-rest}
 use Rattle.queues.proofs.Out.{MovableIn, next-besides, previous-besides, written, records-with, Out, as-many, out}
 
@@ -66,8 +65,8 @@ module _ {s : State} {i : ℕ} (h : MovableIn s i) where
     same-passes : passes t (b .deadline) ≡ passes s (b .deadline)
     same-passes = ap (λ (l : List Bare). λ (x : ℕ). leb (getD l x blank .deadline) (b .deadline)) (o .records)
 
-    places : (x : ℕ) → (x ≡ i → ⊥) → place k x ≡ loosened queue-count i (place (seen s)) x
-    places x ne = Moves.kept-place m b x ne ∙ sym (loose-there queue-count i (place (seen s)) x ne)
+    places : (x : ℕ) → (x ≡ i → ⊥) → standing k x ≡ loosened queue-count i (standing (seen s)) x
+    places x ne = Moves.kept-place m b x ne ∙ sym (loose-there queue-count i (standing (seen s)) x ne)
 
     -- Task i with its new record and these links, and the state with it.
     abbrev clothed : ℤ → ℤ → Task
@@ -79,14 +78,14 @@ module _ {s : State} {i : ℕ} (h : MovableIn s i) where
     own : (next previous : ℤ) → record-at (stored-with next previous .tasks) i ≡ clothed next previous
     own next previous = written (t .tasks) i (clothed next previous) (omega (arith, as-many s t (o .records) (h .tasks), h .is-task))
 
-    in-none : queue-count ≤ q → Holds (stored-with end end) (place k) (queue k)
+    in-none : queue-count ≤ q → LinksHold (stored-with end end) (standing k) (queue k)
     in-none l =
-        stored (o .filed) (Moves.out-queues m) (h .is-task) places (loose-here queue-count i (place (seen s))) (rw (Moves.moved-place m b) l)
+        stored (o .filed) (Moves.out-queues m) (h .is-task) places (loose-here queue-count i (standing (seen s))) (rw (Moves.moved-place m b) l)
         (λ x ne. (next-besides (t .tasks) i (clothed end end) x ne, previous-besides (t .tasks) i (clothed end end) x ne))
         (ap (λ (c : Task). c .next) (own end end)) (ap (λ (c : Task). c .previous) (own end end)) (λ p. refl)
         (λ p lp. Moves.kept-queue m b p lp (λ e. omega arith))
 
-    in-one : (before after : ℤ) → q < queue-count → Place t q (b .deadline) before after → Holds (relinked (stored-with after before) q before after (pos i) (pos i)) (place k) (queue k)
+    in-one : (before after : ℤ) → q < queue-count → Sides t q (b .deadline) before after → LinksHold (relinked (stored-with after before) q before after (pos i) (pos i)) (standing k) (queue k)
     in-one before after l g =
         let u = stored-with after before in
         let long : length (u .tasks) ≡ task-count = length-set (t .tasks) i (clothed after before) ∙ as-many s t (o .records) (h .tasks) in
@@ -94,11 +93,11 @@ module _ {s : State} {i : ℕ} (h : MovableIn s i) where
         let eb : before ≡ finish end (w .front) = rw (outside q l, same-passes) at (g .before-is) in
         let ea : after ≡ start end (w .back) = rw (outside q l, same-passes) at (g .after-is) in
         let r = relinks u q before after (pos i) (pos i) i long in
-        let away : Absent i (w .front ++ w .back) = rw (w .less) at (absent i (Moves.out-queues m q l) (λ e. let f = loose-here queue-count i (place (seen s)) in omega arith)) in
+        let away : Absent i (w .front ++ w .back) = rw (w .less) at (absent i (Moves.out-queues m q l) (λ e. let f = loose-here queue-count i (standing (seen s)) in omega arith)) in
         let kept = kept-links (relinks u q before after (pos i) (pos i) task-count long) (w .front) (w .back) eb ea i (λ e. let z = h .is-task in omega arith)
         (all-left _ (w .front) (w .back) away) (all-right _ (w .front) (w .back) away) in
-        let stands : place k i ≡ q = Moves.moved-place m b in
-        joined (o .filed) (Moves.out-queues m) (h .is-task) places (passes s (b .deadline)) (loose-here queue-count i (place (seen s))) (rw stands l) (rw stands (record { before-is = eb; after-is = ea }))
+        let stands : standing k i ≡ q = Moves.moved-place m b in
+        joined (o .filed) (Moves.out-queues m) (h .is-task) places (passes s (b .deadline)) (loose-here queue-count i (standing (seen s))) (rw stands l) (rw stands (record { before-is = eb; after-is = ea }))
         (record {
           sides = record {
             next-turned = r .next-turned;
@@ -114,12 +113,12 @@ module _ {s : State} {i : ℕ} (h : MovableIn s i) where
         (rw stands (Moves.moved-queue m b l)) (λ p lp ne. Moves.kept-queue m b p lp (λ z. ne (z ∙ sym stands)))
 
     -- A state with the move's records, whose links hold the move's queues, shows the move.
-    shown : (r : State) → r ≡ with-table s (r .tasks) (r .heads) → map bare (r .tasks) ≡ set (map bare (s .tasks)) i b → length (r .heads) ≡ queue-count → Holds r (place k) (queue k) → Shows r k
+    shown : (r : State) → r ≡ with-table s (r .tasks) (r .heads) → map bare (r .tasks) ≡ set (map bare (s .tasks)) i b → length (r .heads) ≡ queue-count → LinksHold r (standing k) (queue k) → Shows r k
     shown r rest records long f =
         record {
           kept = record {
-            filed = subst (λ (j : Kernel). Holds r (place j) (queue j)) (sym is) f;
-            queues = subst (λ (j : Kernel). (p : ℕ) → p < queue-count → Queue task-count (place j) (deadline-of j) p (queue j p)) (sym is) (Moves.moved-queues m b);
+            filed = subst (λ (j : Kernel). LinksHold r (standing j) (queue j)) (sym is) f;
+            queues = subst Queued (sym is) (Moves.moved-queues m b);
           };
           is = is;
         }

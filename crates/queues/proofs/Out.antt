@@ -17,8 +17,8 @@ use Rattle.kernel.specs.Sizes.{task-count}
 use Rattle.kernel.specs.Status.{queue-of, queue-count}
 use Rattle.kernel.specs.Kernel.{Bare, queue, blank}
 use Rattle.kernel.specs.Seen.{bare, past, record-at, next-of, previous-of, seen}
-use Rattle.kernel.specs.Good.{place}
-use Rattle.kernel.specs.Sound.{Holds}
+use Rattle.kernel.specs.Good.{standing}
+use Rattle.kernel.specs.Sound.{LinksHold}
 use Rattle.kernel.specs.Shows.{Kept}
 use Rattle.kernel.proofs.Seen.{task-seen}
 use Rattle.queues.specs.Links.{with-table, with-record, relinked, taken-out}
@@ -52,7 +52,7 @@ records-with (x ∷ ts) (suc i) a = ap (λ (l : List Bare). bare x ∷ l) (recor
 
 -- In t the queues are those of s without i, and nothing else has changed.
 pub record Out (s : State) (i : ℕ) (t : State) : Type 0 where
-  pub filed : Holds t (loosened queue-count i (place (seen s))) (λ q. remove i (queue (seen s) q))
+  pub filed : LinksHold t (loosened queue-count i (standing (seen s))) (λ q. remove i (queue (seen s) q))
   pub records : map bare (t .tasks) ≡ map bare (s .tasks)
   pub heads : length (t .heads) ≡ queue-count
   pub rest : t ≡ with-table s (t .tasks) (t .heads)
@@ -68,7 +68,7 @@ module _ {s : State} {i : ℕ} (m : MovableIn s i) where
   abbrev p : ℕ
   p = queue-of (a .status)
 
-  stood : place (seen s) i ≡ p
+  stood : standing (seen s) i ≡ p
   stood = ap (λ (b : Bare). queue-of (b .status)) (task-seen s i)
 
   out-of-one : p < queue-count → Out s i (with-record (relinked s p (a .previous) (a .next) (a .next) (a .previous)) i (a .class) (a .status) (a .deadline) end end)
@@ -80,7 +80,7 @@ module _ {s : State} {i : ℕ} (m : MovableIn s i) where
       let w = written (t .tasks) i b (omega (arith, as-many s t e (m .tasks), m .is-task)) in
       record {
         filed =
-            left (m .kept .filed) (m .kept .queues) (m .is-task) (loose-there queue-count i (place (seen s))) (rw stood l) (loose-here queue-count i (place (seen s)))
+            left (m .kept .filed) (m .kept .queues) (m .is-task) (loose-there queue-count i (standing (seen s))) (rw stood l) (loose-here queue-count i (standing (seen s)))
             (record {
               sides = record {
                 next-turned = λ x lx ne z. next-besides (t .tasks) i b x ne ∙ r .next-turned x lx ne z;
@@ -102,10 +102,10 @@ module _ {s : State} {i : ℕ} (m : MovableIn s i) where
 
   out-of-none : queue-count ≤ p → Out s i s
   out-of-none l =
-      let free : queue-count ≤ place (seen s) i = rw stood l in
+      let free : queue-count ≤ standing (seen s) i = rw stood l in
       record {
         filed =
-            stored (m .kept .filed) (m .kept .queues) (m .is-task) (loose-there queue-count i (place (seen s))) free (loose-here queue-count i (place (seen s))) (λ x ne. (refl, refl))
+            stored (m .kept .filed) (m .kept .queues) (m .is-task) (loose-there queue-count i (standing (seen s))) free (loose-here queue-count i (standing (seen s))) (λ x ne. (refl, refl))
             (m .kept .filed .alone-next i (m .is-task) free) (m .kept .filed .alone-previous i (m .is-task) free) (λ q. refl)
             (λ q lq. remove-absent i (queue (seen s) q) (absent i (m .kept .queues q lq) (λ e. omega arith)));
         records = refl;

@@ -14,7 +14,7 @@ use Rattle.kernel.specs.Status.{queue-count}
 use Rattle.kernel.specs.Kernel.{Bare}
 use Rattle.kernel.specs.Seen.{next-of, previous-of, head-of, record-at}
 use Rattle.kernel.proofs.Seen.{task-seen, queue-seen}
-use Rattle.queues.specs.Links.{Linked, Place, passes}
+use Rattle.queues.specs.Links.{Linked, Sides, passes}
 
 -- The scan of queue q for the deadline d stands between two links, at task x.
 pub record At (s : State) (q d : ℕ) (before after : ℤ) (x : ℕ) : Type 0 where
@@ -39,8 +39,8 @@ module _ {s : State} {q d : ℕ} (long : length (s .heads) ≡ queue-count) (lq 
         let t = scan-step task-count _ _ _ _ (a .scanning) (rw (a .task) at l) (read true (le-leb _ _ h)) in
         rw (a .task) (record { scanning = t .0; task = refl }, t .1)
 
-    pub stops : x < task-count → d < record-at (s .tasks) x .deadline → Place s q d before after
+    pub stops : x < task-count → d < record-at (s .tasks) x .deadline → Sides s q d before after
     stops l h = rw (queue-seen s q long lq) (scan-stop task-count _ _ _ _ (a .scanning) (rw (a .task) at l) (read false (lt-leb _ _ h)))
 
-    pub ends : task-count ≤ x → Place s q d before after
+    pub ends : task-count ≤ x → Sides s q d before after
     ends l = rw (queue-seen s q long lq) (scan-end task-count _ _ _ _ (a .scanning) (rw (a .task) at l))

@@ -28,15 +28,15 @@ abbrev pub passes : State → ℕ → ℕ → Bool
 passes s d x = leb (deadline-of (seen s) x) d
 
 -- The links on both sides of the place that a task of deadline d takes in queue q.
-abbrev pub Place : State → ℕ → ℕ → ℤ → ℤ → Type 0
-Place s q d before after = Gap (passes s d) (queue (seen s) q) before after
+abbrev pub Sides : State → ℕ → ℕ → ℤ → ℤ → Type 0
+Sides s q d before after = Gap (passes s d) (queue (seen s) q) before after
 
 -- ---- what it writes
 
 -- Another table of tasks, and other heads.
 abbrev pub with-table : State → List Task → List ℤ → State
 with-table s ts hs =
-    record { clock = s .clock; stop = s .stop; running = s .running; share = s .share; tasks = ts; heads = hs; semaphores = s .semaphores; channels = s .channels; sessions = s .sessions }
+    record { clock = s .clock; stop = s .stop; running = s .running; total = s .total; tasks = ts; heads = hs; semaphores = s .semaphores; channels = s .channels; sessions = s .sessions }
 
 -- Task i has another record, and these links.
 abbrev pub with-record : State → ℕ → Class → Status → ℕ → ℤ → ℤ → State

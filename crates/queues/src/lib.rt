@@ -7,7 +7,7 @@ ghost use Rattle.kernel.specs.Status.{queue-count, queue-of};
 ghost use Rattle.kernel.specs.Moves.{move};
 ghost use Rattle.kernel.specs.Seen.{seen};
 ghost use Rattle.queues.specs.First.{First};
-ghost use Rattle.queues.specs.Links.{Linked, Place, bare-of, with-record, with-next, with-previous, relinked, taken-out, filed-in};
+ghost use Rattle.queues.specs.Links.{Linked, Sides, bare-of, with-record, with-next, with-previous, relinked, taken-out, filed-in};
 ghost use Rattle.kernel.specs.Shows.{Kept, Shows};
 use kernel::Class;
 use kernel::State;
@@ -115,7 +115,7 @@ struct Gap {
 // Where a task of this deadline goes in queue q: past every deadline no later than its own.
 fn scan(s: State, q: usize, deadline: u32) -> Gap
     requires { ⌜ q < queue-count ⌝ ∗ ⌜ Linked s q ⌝ }
-    ensures { λ r. ⌜ Place s q deadline (r .before) (r .after) ⌝ }
+    ensures { λ r. ⌜ Sides s q deadline (r .before) (r .after) ⌝ }
 {
     let heads = s.heads;
     let mut before: i8 = -1;
@@ -134,7 +134,7 @@ fn scan(s: State, q: usize, deadline: u32) -> Gap
 }
 
 // Task i goes out of whichever queue it is in. It keeps its record, with no links.
-pub fn take_out(s: State, i: usize) -> State
+fn take_out(s: State, i: usize) -> State
     requires { ⌜ i < task-count ⌝ }
     ensures { λ r. ⌜ r ≡ taken-out s i ⌝ }
 {
@@ -152,7 +152,7 @@ pub fn take_out(s: State, i: usize) -> State
 }
 
 // Task i, which is in no queue, gets this record and goes into the queue of its new status, if that has one.
-pub fn file(s: State, i: usize, class: Class, status: Status, deadline: u32) -> State
+fn file(s: State, i: usize, class: Class, status: Status, deadline: u32) -> State
     requires { ⌜ i < task-count ⌝ ∗ ⌜ (queue-of status < queue-count → Linked s (queue-of status)) ⌝ }
     ensures { λ r. ⌜ r ≡ filed-in s i (bare-of class status deadline) ⌝ }
 {

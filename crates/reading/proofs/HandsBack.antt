@@ -19,11 +19,11 @@ use Rattle.kernel.proofs.Allowed.{Allowed, ChannelInUse}
 use Rattle.kernel.proofs.Messages.{reading-open}
 use Rattle.kernel.proofs.Shows.{kept, itself}
 use Rattle.refusals.specs.declared.Verdict.{Verdict}
-use Rattle.refusals.specs.declared.Verdict.the-variants.{Passes, Refuses}
+use Rattle.refusals.specs.declared.Verdict.the-variants.{Accepts, Refuses}
 use Rattle.refusals.specs.Tested.{refuses, number-of, Judged}
 use Rattle.refusals.proofs.Answers.{lets-pass, turned-down, carried-out}
 use Rattle.channels.proofs.Holds.{holds}
-use Rattle.reading.specs.Message.{message, either, Showable}
+use Rattle.reading.specs.Message.{message, by-verdict, Showable}
 
 -- All bytes of a slice, in their place, are the slice.
 pub all-of : (x : Slice) → part-of x 0 (length (x .bytes)) ≡ x
@@ -36,8 +36,8 @@ all-of x =
 module _ {c : Call} {s : State} (l : Loan) (n : ℕ) (other : Shown) (x : Slice) (is : effect c (seen s) (l .memory .bytes) ≡ showed n other (seen s) (l .memory .bytes))
     (due : handed-back other l ≡ some x) where
   pub shows : (v : Verdict) → Judged c s (l .memory .bytes) v
-      → Showing c s (l .memory) (l .standby) (either v (message (seen s) n (l .memory)) x) (refuses v) (number-of v)
-  shows Passes j = carried-out l j refl is (itself (kept (lets-pass j refl .sound)))
+      → Showing c s (l .memory) (l .standby) (by-verdict v (message (seen s) n (l .memory)) x) (refuses v) (number-of v)
+  shows Accepts j = carried-out l j refl is (itself (kept (lets-pass j refl .sound)))
   shows (Refuses y) j =
       subst (λ (w : Option Slice). Answered c s l (record { reply = unchanged s (Refused y); memory = l .memory .bytes; shown = w })) due
       (turned-down l j refl (ap (λ (e : Effect). e .instead) is))

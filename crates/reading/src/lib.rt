@@ -3,11 +3,12 @@ ghost use mathlib.Core.Path.{_≡_};
 ghost use Prim.Native.Nat.{_≤_};
 ghost use lib.ListN.{length};
 ghost use Rattle.kernel.specs.Calls as Calls;
+ghost use Rattle.kernel.specs.Calls.{on-channel};
 ghost use Rattle.kernel.specs.Seen.{seen};
 ghost use Rattle.kernel.specs.Slices.{Slice, slice, part-of};
 ghost use Rattle.kernel.specs.Promise.{Lent, Showing};
 ghost use Rattle.refusals.specs.Tested.{LentRefusal};
-ghost use Rattle.reading.specs.Message.{either, message, Showable};
+ghost use Rattle.reading.specs.Message.{by-verdict, message, Showable};
 use channels::Kind;
 use kernel::ChannelNo;
 use kernel::Reply;
@@ -18,7 +19,7 @@ use refusals::Verdict;
 // ---- begin reading
 
 fn may_begin(s: State, memory: usize, c: usize) -> Verdict
-    ensures { λ r. ⌜ LentRefusal (Calls.begin-reading c) s memory r ⌝ }
+    ensures { λ r. ⌜ LentRefusal (on-channel (Calls.begin-reading c)) s memory r ⌝ }
 {
     let closed = channels::on_channel(s, memory, c, Kind::Closed);
     let channel = channels::channel_of(s, c);
@@ -28,13 +29,13 @@ fn may_begin(s: State, memory: usize, c: usize) -> Verdict
 
 // The running task begins to read: it holds the latest buffer.
 pub fn begin_reading(s: State, channel: ChannelNo, memory: &[u8]) -> Reply
-    ensures { λ r. ⌜ Lent (Calls.begin-reading (channel .0)) s (slice (memory .entry)) r (now (memory .entry)) ⌝ }
+    ensures { λ r. ⌜ Lent (on-channel (Calls.begin-reading (channel .0))) s (slice (memory .entry)) r (now (memory .entry)) ⌝ }
 {
     let c = channel.0;
     let verdict = may_begin(s, memory.len(), c);
     match verdict {
         Verdict::Refuses(_) => refusals::refuse(s, verdict),
-        Verdict::Passes => {
+        Verdict::Accepts => {
             let channel = channels::channel_of(s, c);
             let latest = channel.latest;
             let b = buffers::newest(latest);
@@ -57,11 +58,11 @@ fn shown<'a>(
     n: usize,
 ) -> &'a [u8]
     requires { ⌜ Showable s c verdict (now memory) ⌝ ∗ ⌜ n ≤ length (now other) ⌝ }
-    ensures { λ r. ⌜ slice r ≡ either verdict (message (seen s) c (slice (memory .entry))) (part-of (slice (other .entry)) 0 n) ⌝ }
+    ensures { λ r. ⌜ slice r ≡ by-verdict verdict (message (seen s) c (slice (memory .entry))) (part-of (slice (other .entry)) 0 n) ⌝ }
 {
     match verdict {
         Verdict::Refuses(_) => memory::part(other, 0, n),
-        Verdict::Passes => {
+        Verdict::Accepts => {
             let place = channels::held(s, c);
             let channel = channels::channel_of(s, c);
             memory::part(memory, place, channel.size as usize)
@@ -78,7 +79,7 @@ pub fn showing<'a, 'b, 'c>(
     refused: &'b mut bool,
     number: &'c mut i64,
 ) -> &'a [u8]
-    ensures { λ r. ⌜ ((text : Slice) → Showing (Calls.showing (channel .0)) s (slice (memory .entry)) text (slice r) (now (refused .exit)) (now (number .exit))) ⌝ }
+    ensures { λ r. ⌜ ((text : Slice) → Showing (on-channel (Calls.showing (channel .0))) s (slice (memory .entry)) text (slice r) (now (refused .exit)) (now (number .exit))) ⌝ }
 {
     let c = channel.0;
     let verdict = channels::on_channel(s, memory.len(), c, Kind::Reading);
@@ -97,7 +98,7 @@ pub fn screen<'a, 'b, 'c>(
     number: &'c mut i64,
 ) -> &'a [u8]
     ensures { λ r. ⌜
-        Showing (Calls.screen (channel .0) (now (standby .entry))) s (slice (memory .entry)) (slice (standby .entry)) (slice r) (now (refused .exit)) (now (number .exit))
+        Showing (on-channel (Calls.screen (channel .0) (now (standby .entry)))) s (slice (memory .entry)) (slice (standby .entry)) (slice r) (now (refused .exit)) (now (number .exit))
         ⌝ }
 {
     let c = channel.0;
@@ -111,13 +112,13 @@ pub fn screen<'a, 'b, 'c>(
 
 // The running task's reading ends.
 pub fn close(s: State, channel: ChannelNo, memory: &[u8]) -> Reply
-    ensures { λ r. ⌜ Lent (Calls.close (channel .0)) s (slice (memory .entry)) r (now (memory .entry)) ⌝ }
+    ensures { λ r. ⌜ Lent (on-channel (Calls.close (channel .0))) s (slice (memory .entry)) r (now (memory .entry)) ⌝ }
 {
     let c = channel.0;
     let verdict = channels::on_channel(s, memory.len(), c, Kind::Reading);
     match verdict {
         Verdict::Refuses(_) => refusals::refuse(s, verdict),
-        Verdict::Passes => {
+        Verdict::Accepts => {
             let next = buffers::with_own(s, c, Session::Closed);
             refusals::done(next, 0)
         }

@@ -8,8 +8,9 @@ use lib.IntN.{ℤ, pos}
 use Rattle.kernel.specs.declared.Answer.the-variants.{Done, Refused}
 use Rattle.kernel.specs.declared.State.{State}
 use Rattle.kernel.specs.declared.Reply.{Reply}
+use Rattle.kernel.specs.Answer as Answer
 use Rattle.kernel.specs.Kernel.{Kernel}
-use Rattle.kernel.specs.Calls.{Call, Shown, nothing, Effect, effect, told, done}
+use Rattle.kernel.specs.Calls.{Call, Shown, nothing, Effect, told, done, with-memory, effect}
 use Rattle.kernel.specs.Refusals.{first, rows}
 use Rattle.kernel.specs.Step.{by-table, step}
 use Rattle.kernel.specs.Seen.{seen}
@@ -20,8 +21,8 @@ use Rattle.kernel.specs.Promise.{handed, handed-back, Loan, Given, Gives, Answe
 use Rattle.kernel.proofs.Shows.{kept, itself}
 use Rattle.kernel.proofs.Allowed.{Told, Allowed, allowed}
 use Rattle.refusals.specs.declared.Verdict.{Verdict}
-use Rattle.refusals.specs.declared.Verdict.the-variants.{Passes, Refuses}
-use Rattle.refusals.specs.Tested.{said, number-of, Tested, Judged, Refusal, Legal}
+use Rattle.refusals.specs.declared.Verdict.the-variants.{Accepts, Refuses}
+use Rattle.refusals.specs.Tested.{refusing-number, number-of, Tested, Judged, Refusal, Legal}
 
 -- The replies of a refused call and of one that took effect.
 abbrev pub refusing : State → ℤ → Reply
@@ -38,10 +39,10 @@ pub record LetsPass (c : Call) (s : State) (m : List ℕ) : Type 0 where
   pub allowed : Allowed c (seen s) m
 
 module _ {c : Call} {s : State} {v : Verdict} where
-  pub lets-pass : {m : List ℕ} → Judged c s m v → v ≡ Passes → LetsPass c s m
+  pub lets-pass : {m : List ℕ} → Judged c s m v → v ≡ Accepts → LetsPass c s m
   lets-pass {m} j p =
       let t = j .tested in
-      let a = allowed (handed (t .sound) s m) c (t .says ∙ ap said p) in
+      let a = allowed (handed (t .sound) s m) c (t .says ∙ ap refusing-number p) in
       record { sound = t .decided .0 (a .sound); allowed = a .allowed }
 
   module _ (l : Loan) (j : Judged c s (l .memory .bytes) v) where
@@ -49,7 +50,7 @@ module _ {c : Call} {s : State} {v : Verdict} where
     t = j .tested
 
     -- What is given back where the table says o.
-    given : {o : Option ℤ} {g : Given} → said v ≡ o → Gives (by-table o (effect c (seen s) (l .memory .bytes)) (handed (t .sound) s (l .memory .bytes))) s l g → Answered c s l g
+    given : {o : Option ℤ} {g : Given} → refusing-number v ≡ o → Gives (by-table o (effect c (seen s) (l .memory .bytes)) (handed (t .sound) s (l .memory .bytes))) s l g → Answered c s l g
     unfolding step
     given {g = g} e h =
         record {
@@ -62,13 +63,13 @@ module _ {c : Call} {s : State} {v : Verdict} where
     pub turned-down : {n : ℤ} {w : Shown} → v ≡ Refuses n → effect c (seen s) (l .memory .bytes) .instead ≡ w
         → Answered c s l (record { reply = refusing s (number-of v); memory = l .memory .bytes; shown = handed-back w l })
     turned-down e is =
-        given (ap said e)
-        (record { answer = ap (λ (x : Verdict). Refused (number-of x)) e; state = refl; running = refl; memory = refl; shown = ap (λ (x : Shown). handed-back x l) (sym is) })
+        given (ap refusing-number e)
+        (record { answer = ap (λ (x : Verdict). Answer.refused (number-of x)) e; state = refl; running = refl; memory = refl; shown = ap (λ (x : Shown). handed-back x l) (sym is) })
 
-    pub carried-out : {f : Effect} {next : State} → v ≡ Passes → effect c (seen s) (l .memory .bytes) ≡ f → Shows next (f .kernel)
+    pub carried-out : {f : Effect} {next : State} → v ≡ Accepts → effect c (seen s) (l .memory .bytes) ≡ f → Shows next (f .kernel)
         → Answered c s l (record { reply = doing next (f .number); memory = f .memory; shown = handed-back (f .shown) l })
     carried-out {f} {next} e is shows =
-        given (ap said e)
+        given (ap refusing-number e)
         (subst
         (λ (x : Effect). Gives (by-table none x (handed (t .sound) s (l .memory .bytes))) s l (record { reply = doing next (f .number); memory = f .memory; shown = handed-back (f .shown) l }))
         (sym is)
@@ -81,24 +82,24 @@ pub allows : {c : Call} {s : State} → Legal c s → Told (handed true s []) (A
 allows {c} {s} l = allowed (handed true s []) c (l .none [])
 
 module _ {c : Call} {s : State} {v : Verdict} (t : Refusal c s v) where
-  pub legal : v ≡ Passes → Legal c s
+  pub legal : v ≡ Accepts → Legal c s
   legal p =
       record {
         sound = lets-pass (t []) p .sound;
         none = λ m.
             let w = t m .tested in
-            let e = w .says ∙ ap said p in
+            let e = w .says ∙ ap refusing-number p in
             subst (λ (b : Bool). first (rows c (handed b s m)) ≡ none) (allowed (handed (w .sound) s m) c e .sound) e;
       }
 
   pub refused : {n : ℤ} → v ≡ Refuses n → ((m : List ℕ) → effect c (seen s) m .instead ≡ nothing) → Unlent c s (refusing s (number-of v))
   refused e is = λ l. turned-down l (t (l .memory .bytes)) e (is (l .memory .bytes))
 
-  pub took-effect : {x : ℤ} {k : Kernel} {next : State} → v ≡ Passes → ((m : List ℕ) → effect c (seen s) m ≡ told x k m) → Shows next k → Unlent c s (doing next x)
+  pub took-effect : {x : ℤ} {k : Kernel} {next : State} → v ≡ Accepts → ((m : List ℕ) → effect c (seen s) m ≡ told x k m) → Shows next k → Unlent c s (doing next x)
   took-effect e is shows = λ l. carried-out l (t (l .memory .bytes)) e (is (l .memory .bytes)) shows
 
   -- A question changes nothing.
-  pub asked : {x : ℤ} → v ≡ Passes → ((m : List ℕ) → effect c (seen s) m ≡ told x (seen s) m) → Unlent c s (doing s x)
+  pub asked : {x : ℤ} → v ≡ Accepts → ((m : List ℕ) → effect c (seen s) m ≡ told x (seen s) m) → Unlent c s (doing s x)
   asked e is = took-effect e is (itself (kept (legal e .sound)))
 
 -- ---- a call that is lent the memory
@@ -107,5 +108,5 @@ module _ {c : Call} {s : State} {m : Slice} {v : Verdict} (j : Judged c s (m .by
   pub lent-refused : {n : ℤ} → v ≡ Refuses n → effect c (seen s) (m .bytes) .instead ≡ nothing → Lent c s m (refusing s (number-of v)) (m .bytes)
   lent-refused e is = λ text. turned-down (record { memory = m; standby = text }) j e is
 
-  pub lent-took-effect : {k : Kernel} {n : List ℕ} {next : State} → v ≡ Passes → effect c (seen s) (m .bytes) ≡ done k n → Shows next k → Lent c s m (doing next (pos 0)) n
+  pub lent-took-effect : {k : Kernel} {n : List ℕ} {next : State} → v ≡ Accepts → effect c (seen s) (m .bytes) ≡ with-memory (done k) n → Shows next k → Lent c s m (doing next (pos 0)) n
   lent-took-effect e is shows = λ text. carried-out (record { memory = m; standby = text }) j e is shows

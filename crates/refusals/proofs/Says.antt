@@ -10,14 +10,14 @@ use Rattle.kernel.specs.Refusals.{Row, when, lent}
 use Rattle.kernel.specs.Promise.{handed}
 use Rattle.kernel.proofs.Rows.{NoneApplies, none-applies, behind-none, behind-some}
 use Rattle.refusals.specs.declared.Verdict.{Verdict}
-use Rattle.refusals.specs.declared.Verdict.the-variants.{Passes, Refuses}
-use Rattle.refusals.specs.Tested.{said, Tested, of-lent}
+use Rattle.refusals.specs.declared.Verdict.the-variants.{Accepts, Refuses}
+use Rattle.refusals.specs.Tested.{refusing-number, Tested, of-lent}
 
 -- Rows that let pass do not apply.
-pub none-of : {those : Bool → List Row} {s : State} (p : Tested those s Passes) → NoneApplies (those (p .sound))
+pub none-of : {those : Bool → List Row} {s : State} (p : Tested those s Accepts) → NoneApplies (those (p .sound))
 none-of {those} p = none-applies (those (p .sound)) (p .says)
 
--- What is said of a memory's length is said of the memory.
+-- What is refusing-number of a memory's length is refusing-number of the memory.
 pub of-length : {own : List Row} {s : State} {n : ℕ} {v : Verdict} → Tested (of-lent s n own) s v → (m : List ℕ) → length m ≡ n → Tested (λ b. lent (handed b s m) own) s v
 of-length {own} {s} {v = v} t m e = subst (λ (x : ℕ). Tested (of-lent s x own) s v) (sym e) t
 
@@ -27,12 +27,12 @@ module _ {those : Bool → List Row} {s : State} {v : Verdict} (t : Tested those
   more z = those z ++ when number b ∷ []
 
   pub before : {n : ℤ} → v ≡ Refuses n → Tested more s (Refuses n)
-  before {n} r = record { sound = t .sound; decided = t .decided; says = behind-some (when number b ∷ []) n (those (t .sound)) (t .says ∙ ap said r) }
+  before {n} r = record { sound = t .sound; decided = t .decided; says = behind-some (when number b ∷ []) n (those (t .sound)) (t .says ∙ ap refusing-number r) }
 
-  pub here : v ≡ Passes → b ≡ true → Tested more s (Refuses number)
+  pub here : v ≡ Accepts → b ≡ true → Tested more s (Refuses number)
   here p e =
-      record { sound = t .sound; decided = t .decided; says = behind-none (when number b ∷ []) (those (t .sound)) (t .says ∙ ap said p) ∙ rw e refl }
+      record { sound = t .sound; decided = t .decided; says = behind-none (when number b ∷ []) (those (t .sound)) (t .says ∙ ap refusing-number p) ∙ rw e refl }
 
-  pub nowhere : v ≡ Passes → b ≡ false → Tested more s Passes
+  pub nowhere : v ≡ Accepts → b ≡ false → Tested more s Accepts
   nowhere p e =
-      record { sound = t .sound; decided = t .decided; says = behind-none (when number b ∷ []) (those (t .sound)) (t .says ∙ ap said p) ∙ rw e refl }
+      record { sound = t .sound; decided = t .decided; says = behind-none (when number b ∷ []) (those (t .sound)) (t .says ∙ ap refusing-number p) ∙ rw e refl }

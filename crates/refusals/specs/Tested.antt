@@ -15,27 +15,27 @@ use Rattle.kernel.specs.Refusals.{Row, -12, unless, first, every, rows}
 use Rattle.kernel.specs.Sound.{Sound}
 use Rattle.kernel.specs.Promise.{handed}
 use Rattle.refusals.specs.declared.Verdict.{Verdict}
-use Rattle.refusals.specs.declared.Verdict.the-variants.{Passes, Refuses}
+use Rattle.refusals.specs.declared.Verdict.the-variants.{Accepts, Refuses}
 
 -- The number that a verdict refuses with, none or 0 where it lets pass.
-abbrev pub said : Verdict → Option ℤ
-said Passes = none
-said (Refuses n) = some n
+abbrev pub refusing-number : Verdict → Option ℤ
+refusing-number Accepts = none
+refusing-number (Refuses n) = some n
 
 abbrev pub number-of : Verdict → ℤ
-number-of Passes = pos 0
+number-of Accepts = pos 0
 number-of (Refuses n) = n
 
 -- Whether it refuses.
 abbrev pub refuses : Verdict → Bool
-refuses Passes = false
+refuses Accepts = false
 refuses (Refuses n) = true
 
 -- The verdict is what these rows say, told truly whether s is sound.
 pub record Tested (those : Bool → List Row) (s : State) (v : Verdict) : Type 0 where
   pub sound : Bool
   pub decided : (sound ≡ true) ↔ Sound s
-  pub says : first (those sound) ≡ said v
+  pub says : first (those sound) ≡ refusing-number v
 
 -- The rows that every call has, and these.
 abbrev pub of-every : State → List Row → Bool → List Row

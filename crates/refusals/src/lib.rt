@@ -10,7 +10,7 @@ ghost use Rattle.kernel.specs.Status.{status-number};
 ghost use Rattle.kernel.specs.Kernel.{task, hard};
 ghost use Rattle.kernel.specs.Refusals.{Row, -8, when, main-runs, hard-runs, no-task-in-use};
 ghost use Rattle.kernel.specs.Seen.{seen};
-ghost use Rattle.refusals.specs.declared.Verdict.the-variants.{Passes};
+ghost use Rattle.refusals.specs.declared.Verdict.the-variants.{Accepts};
 ghost use Rattle.refusals.specs.Tested.{number-of, refuses, Tested, of-every, of-lent};
 use kernel::Answer;
 use kernel::Reply;
@@ -20,7 +20,7 @@ use kernel::Stop;
 
 // What the rows say.
 pub enum Verdict {
-    Passes,
+    Accepts,
     Refuses(i64),
 }
 
@@ -39,7 +39,7 @@ pub fn every_call(s: State) -> Verdict
     if n == Stop::LIFETIME {
         return Verdict::Refuses(State::TIME_EXPIRED);
     }
-    Verdict::Passes
+    Verdict::Accepts
 }
 
 // The rows of every call that is lent a memory, here of so many bytes: that row answers before the others.
@@ -55,15 +55,15 @@ pub fn lent_call(s: State, memory: usize) -> Verdict
 
 // One row more, behind those that said v.
 pub fn row(v: Verdict, number: i64, applies: bool) -> Verdict
-    ensures { λ r. ⌜ ((those : Bool → List Row) (s : State) (b : Bool) → Tested those s v → (Tested those s Passes → applies ≡ b) → Tested (λ z. those z ++ when number b ∷ []) s r) ⌝ }
+    ensures { λ r. ⌜ ((those : Bool → List Row) (s : State) (b : Bool) → Tested those s v → (Tested those s Accepts → applies ≡ b) → Tested (λ z. those z ++ when number b ∷ []) s r) ⌝ }
 {
     match v {
         Verdict::Refuses(n) => v,
-        Verdict::Passes => {
+        Verdict::Accepts => {
             if applies {
                 Verdict::Refuses(number)
             } else {
-                Verdict::Passes
+                Verdict::Accepts
             }
         }
     }
@@ -133,7 +133,7 @@ pub fn refuses(v: Verdict) -> bool
     ensures { λ r. ⌜ r ≡ refuses v ⌝ }
 {
     match v {
-        Verdict::Passes => false,
+        Verdict::Accepts => false,
         Verdict::Refuses(_) => true,
     }
 }
@@ -142,7 +142,7 @@ pub fn number(v: Verdict) -> i64
     ensures { λ r. ⌜ r ≡ number-of v ⌝ }
 {
     match v {
-        Verdict::Passes => 0,
+        Verdict::Accepts => 0,
         Verdict::Refuses(n) => n,
     }
 }

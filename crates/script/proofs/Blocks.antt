@@ -11,7 +11,7 @@ use Rattle.kernel.specs.Sound.{Sound}
 use Rattle.kernel.proofs.Fresh.{fresh-sound, fresh-seen}
 use Rattle.script.specs.Output.{turn, prints, begin, lines, title, output}
 use Rattle.script.specs.Blocks.{Reader, Read, newline, longer, byte, read, rest, at-start, Reached, Ends, Served, start, more}
-use Rattle.script.proofs.Underway.{none-held}
+use Rattle.script.proofs.Begun.{none-begun}
 
 -- Lines whose first goes on behind the bytes p.
 unfoldable onto : List ℕ → List (List ℕ) → List (List ℕ)
@@ -78,14 +78,14 @@ two-pieces (b ∷ bs) cs r =
 reached : {input : List ℕ} {s : State} {buffer : List ℕ} {n : ℕ} {text : List ℕ} → Served input s buffer n text → Reached (read input at-start) s buffer n text
 unfolding read
 reached (start {s} {buffer} e) =
-    record { sound = subst Sound (sym e) fresh-sound; kernel = ap seen e ∙ fresh-seen; held = none-held buffer; prints = refl }
+    record { sound = subst Sound (sym e) fresh-sound; kernel = ap seen e ∙ fresh-seen; line = none-begun buffer; prints = refl }
 reached (more {input} {s} {t} {buffer′ = buffer′} {n′ = n′} {text} block text′ so-far goes-on) =
     let h = reached so-far in
     let x = read input at-start in
     let from : record { kernel = seen s; begun = x .reader .begun } ≡ x .reader = λ i. record { kernel = h .kernel i; begun = x .reader .begun } in
-    let z = subst (λ (r : Reader). Reached (read block r) t buffer′ n′ text′) from (goes-on (x .reader .begun) (h .sound) (h .held)) in
+    let z = subst (λ (r : Reader). Reached (read block r) t buffer′ n′ text′) from (goes-on (x .reader .begun) (h .sound) (h .line)) in
     subst (λ (y : Read). Reached y t buffer′ n′ (text ++ text′)) (sym (two-pieces input block at-start))
-    (record { sound = z .sound; kernel = z .kernel; held = z .held; prints = λ i. h .prints i ++ z .prints i })
+    (record { sound = z .sound; kernel = z .kernel; line = z .line; prints = λ i. h .prints i ++ z .prints i })
 
 -- **in-blocks**: in whatever blocks an input comes, in one piece or byte by byte, what is printed, the end of the input included, is the script's output.
 pub in-blocks : {input : List ℕ} {s : State} {buffer : List ℕ} {n : ℕ} {text last : List ℕ} → Served input s buffer n text → Ends s buffer n last
@@ -94,5 +94,5 @@ unfolding output onto
 in-blocks {input} {s} {text = text} {last = last} served ends =
     let h = reached served in
     let x = read input at-start in
-    let e : last ≡ rest (x .reader .begun) (x .reader .kernel) = ends (x .reader .begun) (h .sound) (h .held) ∙ ap (rest (x .reader .begun)) (h .kernel) in
+    let e : last ≡ rest (x .reader .begun) (x .reader .kernel) = ends (x .reader .begun) (h .sound) (h .line) ∙ ap (rest (x .reader .begun)) (h .kernel) in
     (λ i. title ++ (h .prints i ++ e i)) ∙ ap (λ (y : List ℕ). title ++ y) (as-lines input at-start)

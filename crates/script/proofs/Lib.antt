@@ -1,6 +1,7 @@
+-- A turn is the model's, and a script may come in any blocks.
+pub mod Begun
 pub mod Blocks
 pub mod Ending
-pub mod Holding
-pub mod Rows
+pub mod Printed
 pub mod Turns
 pub mod Underway

@@ -7,13 +7,14 @@ use Rattle.kernel.specs.declared.State.{State}
 use Rattle.kernel.specs.declared.Reply.{Reply}
 use Rattle.kernel.specs.declared.TaskNo.{TaskNo}
 use Rattle.kernel.specs.Kernel.{Kernel}
+use Rattle.kernel.specs.Answer.{said}
 use Rattle.kernel.specs.Calls.{Call}
 use Rattle.kernel.specs.Seen.{seen}
 use Rattle.kernel.specs.Sound.{Sound}
 use Rattle.kernel.specs.Promise.{Loan, Given}
 use Rattle.laws_promises.proofs.Answers.{call-sound, one-outcome}
 use Rattle.laws_promises.proofs.SeenAs.{as-step}
-use Rattle.text.specs.Text.{row}
+use Rattle.text.specs.Text.{printed}
 use Rattle.script.specs.Output.{Turned, by-call}
 use Rattle.script.specs.Step.{Stepped, called, unknown}
 
@@ -30,7 +31,7 @@ unlent = record { memory = record { place = (0, 0); bytes = [] }; standby = reco
 -- **as-turn**: on a sound state, a step leaves a sound one, and it does and prints what the model's turn does.
 pub as-turn : {c : Option Call} {s t : State} {text : List ℕ} → Stepped s t text c → Sound s → Turns (by-call c (seen s)) t text
 unfolding unlent
-as-turn (unknown e printed) w = record { sound = subst Sound (sym e) w; kernel = ap seen e; prints = printed }
+as-turn (unknown e text) w = record { sound = subst Sound (sym e) w; kernel = ap seen e; prints = text }
 as-turn (called h) w =
     let a = h .answered unlent in
     let z = as-step a w in
@@ -39,15 +40,15 @@ as-turn (called h) w =
     record {
       sound = subst Sound (sym e) (call-sound a w);
       kernel = ap seen e ∙ z .kernel;
-      prints = h .printed ∙ (λ i. row (z .answer i) ((running ∙ ap (λ (k : Kernel). k .running) (z .kernel)) i) (z .kernel i .clock));
+      prints = h .prints ∙ (λ i. printed (z .answer i .number) ((running ∙ ap (λ (k : Kernel). k .running) (z .kernel)) i) (z .kernel i .clock));
     }
 
 -- **one-turn**: any two outcomes that the promise of a step permits are equal, on any state.
 pub one-turn : {c : Option Call} {s t t′ : State} {text text′ : List ℕ} → Stepped s t text c → Stepped s t′ text′ c → (t ≡ t′) × (text ≡ text′)
 unfolding unlent
-one-turn (unknown e printed) (unknown e′ printed′) = (e ∙ sym e′, printed ∙ sym printed′)
+one-turn (unknown e text) (unknown e′ text′) = (e ∙ sym e′, text ∙ sym text′)
 one-turn (called h) (called k) =
     let e : h .reply ≡ k .reply = ap (λ (g : Given). g .reply) (one-outcome (h .answered unlent) (k .answered unlent)) in (
       h .state ∙ ap (λ (r : Reply). r .state) e ∙ sym (k .state),
-      h .printed ∙ ap (λ (r : Reply). row (r .answer) (r .running .0) (r .state .clock)) e ∙ sym (k .printed),
+      h .prints ∙ ap (λ (r : Reply). printed (said (r .answer) .number) (r .running .0) (r .state .clock)) e ∙ sym (k .prints),
     )

@@ -52,7 +52,7 @@ abbrev pub longest : ℕ
 longest = 64
 
 -- A buffer holds the line that is begun: all of its n bytes, or only that it is too long.
-pub record Held (buffer : List ℕ) (n : ℕ) (begun : List ℕ) : Type 0 where
+pub record InBuffer (buffer : List ℕ) (n : ℕ) (begun : List ℕ) : Type 0 where
   pub whole : n ≤ longest → begun ≡ take n buffer
   pub long : longest < n → longest < length begun
 
@@ -60,7 +60,7 @@ pub record Held (buffer : List ℕ) (n : ℕ) (begun : List ℕ) : Type 0 where
 pub record Reached (x : Read) (t : State) (buffer : List ℕ) (n : ℕ) (text : List ℕ) : Type 0 where
   pub sound : Sound t
   pub kernel : seen t ≡ x .reader .kernel
-  pub held : Held buffer n (x .reader .begun)
+  pub line : InBuffer buffer n (x .reader .begun)
   pub prints : text ≡ x .text
 
 -- ---- the promises of the functions, whatever line is begun
@@ -68,20 +68,20 @@ pub record Reached (x : Read) (t : State) (buffer : List ℕ) (n : ℕ) (text : 
 -- From a sound state on, the block is read: the state t is left, another line in the buffer, and the text is printed.
 abbrev pub Reads : (block : List ℕ) (s : State) (buffer : List ℕ) (n : ℕ) (t : State) (buffer′ : List ℕ) (n′ : ℕ) (text : List ℕ) → Type 0
 Reads block s buffer n t buffer′ n′ text =
-    (begun : List ℕ) → Sound s → Held buffer n begun → Reached (read block (record { kernel = seen s; begun = begun })) t buffer′ n′ text
+    (begun : List ℕ) → Sound s → InBuffer buffer n begun → Reached (read block (record { kernel = seen s; begun = begun })) t buffer′ n′ text
 
 -- From a sound state on, the end of the input prints the text.
 abbrev pub Ends : (s : State) (buffer : List ℕ) (n : ℕ) (text : List ℕ) → Type 0
-Ends s buffer n text = (begun : List ℕ) → Sound s → Held buffer n begun → text ≡ rest begun (seen s)
+Ends s buffer n text = (begun : List ℕ) → Sound s → InBuffer buffer n begun → text ≡ rest begun (seen s)
 
 -- The line is longer by b.
 abbrev pub Longer : (buffer : List ℕ) (n b : ℕ) (buffer′ : List ℕ) (n′ : ℕ) → Type 0
-Longer buffer n b buffer′ n′ = (begun : List ℕ) → Held buffer n begun → Held buffer′ n′ (begun ++ (b ∷ []))
+Longer buffer n b buffer′ n′ = (begun : List ℕ) → InBuffer buffer n begun → InBuffer buffer′ n′ (begun ++ (b ∷ []))
 
--- The line is ended, in any state, and its row is printed.
-pub record Ended (buffer : List ℕ) (n : ℕ) (s : State) (turn : Turn) (row : List ℕ) : Type 0 where
-  pub fits : Fits turn row
-  pub stepped : (begun : List ℕ) → Held buffer n begun → Stepped s (turn .state) (take (turn .printed) row) (call-of (meaning begun))
+-- The line is ended, in any state, and what it prints stands in out.
+pub record Ended (buffer : List ℕ) (n : ℕ) (s : State) (turn : Turn) (out : List ℕ) : Type 0 where
+  pub fits : Fits turn out
+  pub stepped : (begun : List ℕ) → InBuffer buffer n begun → Stepped s (turn .state) (take (turn .printed) out) (call-of (meaning begun))
 
 -- ---- the functions, one behind the other
 

@@ -3,14 +3,16 @@ use mathlib.Core.Path.{_≡_, refl}
 use mathlib.Core.List.{List}
 use Prim.Native.Nat.{ℕ}
 use Rattle.bytes.specs.Bytes.{indexOf, indexAfter}
+use Rattle.kernel.specs.Sizes.{fitting}
 use Rattle.kernel.specs.Kernel.{share, lowest}
 use Rattle.kernel.specs.Moves.{move, dispatch, preempt, schedule}
 use Rattle.kernel.specs.Tick as Tick
 use Rattle.kernel.specs.Tasks as Tasks
+use Rattle.kernel.specs.Channels.{same-bytes}
 use Rattle.kernel.specs.Calls.{effect}
 use Rattle.kernel.specs.Step.{step}
 use Rattle.kernel.specs.Fresh.{fresh}
-use Rattle.language.specs.Meaning.{same, number-from, number-of, asked, meaning}
+use Rattle.language.specs.Meaning.{number-from, number-of, sought, meaning}
 use Rattle.text.specs.Text.{bytes, digits}
 use Rattle.script.specs.Output.{turn, prints, begin, lines, output}
 
@@ -22,5 +24,5 @@ document =
 pub document-output : output document
     ≡ bytes
     "dick 1\n1 0 0\n2 0 0\n0 2 0\n0 1 0\n0 2 0\n0 2 1\n0 2 2\n0 2 3\n0 2 4\n0 1 4\n0 1 4\n-3 1 4\n3 1 4\n0 0 4\n0 0 5\n0 0 6\n0 0 7\n0 1 8\n2 1 8\n"
-unfolding document output prints lines begin turn meaning asked same number-of number-from digits indexOf indexAfter fresh step effect share lowest move dispatch preempt schedule Tick.free Tick.wake Tick.free-zombies Tick.wake-idle Tick.tick Tasks.lowest-free Tasks.create Tasks.activate Tasks.cycle Tasks.close-sessions Tasks.finish Tasks.end Tasks.kill
+unfolding document output prints lines begin turn meaning sought same-bytes number-of number-from digits indexOf indexAfter fresh step effect fitting share lowest move dispatch preempt schedule Tick.free Tick.wake Tick.free-zombies Tick.wake-idle Tick.tick Tasks.lowest-free Tasks.create Tasks.activate Tasks.cycle Tasks.close-sessions Tasks.finish Tasks.end Tasks.kill
 document-output = refl

@@ -9,7 +9,7 @@ use Rattle.kernel.specs.Calls.{Call}
 use Rattle.kernel.specs.Step.{step}
 use Rattle.kernel.specs.Fresh.{fresh}
 use Rattle.language.specs.Meaning.{call-of, meaning}
-use Rattle.text.specs.Text.{bytes, row}
+use Rattle.text.specs.Text.{bytes, printed}
 
 -- What a line comes to: the kernel then, and what is printed.
 pub record Turned : Type 0 where
@@ -20,12 +20,14 @@ pub record Turned : Type 0 where
 abbrev pub by-call : Option Call → Kernel → Turned
 by-call (some c) k =
     let o = step c (record { sound = true; kernel = k; memory = [] }) in
-    record { kernel = o .kernel; text = row (o .answer) (o .kernel .running) (o .kernel .clock) }
+    record { kernel = o .kernel; text = printed (o .answer .number) (o .kernel .running) (o .kernel .clock) }
 by-call none k = record { kernel = k; text = bytes "?\n" }
 
+-- The turn of a line.
 unfoldable pub turn : List ℕ → Kernel → Turned
 turn line k = by-call (call-of (meaning line)) k
 
+-- What lines print, one behind the other.
 unfoldable pub prints : List (List ℕ) → Kernel → List ℕ
 prints [] k = []
 prints (line ∷ lines) k = turn line k .text ++ prints lines (turn line k .kernel)
@@ -40,9 +42,10 @@ unfoldable pub lines : List ℕ → List (List ℕ)
 lines [] = []
 lines (b ∷ bs) = cond (eqb b 10) ([] ∷ lines bs) (begin b (lines bs))
 
+-- The first line printed is `dick 1`.
 abbrev pub title : List ℕ
 title = bytes "dick 1\n"
 
--- The first line printed is `dick 1`.
+-- All that is printed, from the fresh kernel on.
 unfoldable pub output : List ℕ → List ℕ
 output input = title ++ prints (lines input) fresh

@@ -4,19 +4,16 @@ ghost use mathlib.Core.Option.{none};
 ghost use Prim.Native.Nat.{_*_, _≤_};
 ghost use lib.ListN.{length, take};
 ghost use Rattle.io.specs.Counts.{Counts};
-ghost use Rattle.kernel.specs.Promise.{Unlent};
-ghost use Rattle.language.specs.Meaning.{call, call-of, meaning};
-ghost use Rattle.text.specs.Text.{longest-row};
+ghost use Rattle.language.specs.Meaning.{call-of, meaning};
+ghost use Rattle.text.specs.Text.{longest-printed};
 ghost use Rattle.script.specs.Output as Output;
 ghost use Rattle.script.specs.Step.{Shown};
 ghost use Rattle.script.specs.Blocks.{longest, Longer, Ended, Reads, Ends};
-use kernel::Reply;
 use kernel::State;
-use language::Asked;
 use language::Line;
-use text::LONGEST_ROW;
+use text::LONGEST_PRINTED;
 
-// The state that a line left, and how long a row it printed.
+// The state that a line left, and how long a line it printed.
 pub struct Turn {
     pub state: State,
     pub printed: usize,
@@ -25,79 +22,59 @@ pub struct Turn {
 // No line above 64 bytes is a call.
 pub const LONGEST_LINE: usize = 64;
 
-// Makes the call that is asked for.
-pub fn make(s: State, asked: Asked) -> Reply
-    ensures { λ r. ⌜ Unlent (call asked) s r ⌝ }
-{
-    match asked {
-        Asked::Tick => ticks::tick(s),
-        Asked::Hard(period, cost) => creation::create_hard(s, period, cost),
-        Asked::Nrt(priority) => creation::create_nrt(s, priority),
-        Asked::Activate(task) => tasks::activate(s, task),
-        Asked::Sleep => tasks::sleep(s),
-        Asked::Cycle => tasks::cycle(s),
-        Asked::End => endings::end(s),
-        Asked::Kill(task) => endings::kill(s, task),
-        Asked::Newsem(count) => semaphores::new_semaphore(s, count),
-        Asked::Delsem(semaphore) => semaphores::delete(s, semaphore),
-        Asked::Wait(semaphore) => semaphores::wait(s, semaphore),
-        Asked::Signal(semaphore) => semaphores::signal(s, semaphore),
-    }
-}
-
 // The first line printed.
-pub fn title(row: &mut [u8; LONGEST_ROW]) -> usize
-    ensures { λ r. ⌜ Counts r (now (row .exit)) ⌝ }
-    ensures { λ r. ⌜ take r (now (row .exit)) ≡ Output.title ⌝ }
+pub fn title(out: &mut [u8; LONGEST_PRINTED]) -> usize
+    ensures { λ r. ⌜ Counts r (now (out .exit)) ⌝ }
+    ensures { λ r. ⌜ take r (now (out .exit)) ≡ Output.title ⌝ }
 {
-    text::put(row, 0, b"dick 1\n")
+    text::put(out, 0, b"dick 1\n")
 }
 
-fn unknown(s: State, row: &mut [u8; LONGEST_ROW]) -> Turn
-    ensures { λ r. ⌜ Shown s r (now (row .exit)) none ⌝ }
+fn unknown(s: State, out: &mut [u8; LONGEST_PRINTED]) -> Turn
+    ensures { λ r. ⌜ Shown s r (now (out .exit)) none ⌝ }
 {
-    let printed = text::put(row, 0, b"?\n");
+    let printed = text::put(out, 0, b"?\n");
     Turn { state: s, printed }
 }
 
 // One line, without its newline, read in any state.
-pub fn step(s: State, line: &[u8], row: &mut [u8; LONGEST_ROW]) -> Turn
-    ensures { λ r. ⌜ Shown s r (now (row .exit)) (call-of (meaning (now (line .entry)))) ⌝ }
+pub fn step(s: State, line: &[u8], out: &mut [u8; LONGEST_PRINTED]) -> Turn
+    ensures { λ r. ⌜ Shown s r (now (out .exit)) (call-of (meaning (now (line .entry)))) ⌝ }
 {
     match language::read(line) {
-        Line::NoCall => unknown(s, row),
+        Line::NoCall => unknown(s, out),
         Line::Asks(asked) => {
-            let r = make(s, asked);
+            let r = verbs::make(s, asked);
             let t = r.state;
             let a = r.answer;
             let running = r.running;
-            let printed = text::row(row, a, running, t.clock);
+            let printed = text::printed(out, a, running, t.clock);
             Turn { state: t, printed }
         }
     }
 }
 
 // One byte more in the line that is begun. A line that is too long stays so.
-fn longer(held: &mut [u8], n: usize, b: u8) -> usize
-    requires { ⌜ length (now held) ≡ longest ⌝ }
-    ensures { λ r. ⌜ Longer (now (held .entry)) n b (now (held .exit)) r ⌝ }
+fn longer(line: &mut [u8], n: usize, b: u8) -> usize
+    requires { ⌜ length (now line) ≡ longest ⌝ }
+    ensures { λ r. ⌜ Longer (now (line .entry)) n b (now (line .exit)) r ⌝ }
 {
     if n < LONGEST_LINE {
-        held[n] = b;
+        line[n] = b;
         n + 1
     } else {
         LONGEST_LINE + 1
     }
 }
 
-fn ended(s: State, held: &[u8], n: usize, row: &mut [u8; LONGEST_ROW]) -> Turn
-    requires { ⌜ length (now held) ≡ longest ⌝ }
-    ensures { λ r. ⌜ Ended (now (held .entry)) n s r (now (row .exit)) ⌝ }
+fn ended(s: State, line: &[u8], n: usize, out: &mut [u8; LONGEST_PRINTED]) -> Turn
+    requires { ⌜ length (now line) ≡ longest ⌝ }
+    ensures { λ r. ⌜ Ended (now (line .entry)) n s r (now (out .exit)) ⌝ }
 {
     if n <= LONGEST_LINE {
-        step(s, &held[..n], row)
+        step(s, &line[..n], out)
     } else {
-        unknown(s, row)
+        unknown(s, out)
     }
 }
 
@@ -108,13 +85,13 @@ pub struct Progress {
     pub printed: usize,
 }
 
-// Reads a block of a script and prints a row for each line that ends in it. A line that is begun is held over to the next block.
-pub fn block(s: State, held: &mut [u8], begun: usize, bytes: &[u8], out: &mut [u8]) -> Progress
-    requires { ⌜ length (now held) ≡ longest ⌝ ∗ ⌜ longest-row * length (now bytes) ≤ length (now out) ⌝ }
-    ensures { λ r. ⌜ Counts (r .printed) (now (out .exit)) ⌝ }
-    ensures { λ r. ⌜ Reads (now (bytes .entry)) s (now (held .entry)) begun (r .state) (now (held .exit)) (r .begun) (take (r .printed) (now (out .exit))) ⌝ }
+// Reads a block of a script, and prints for each line that ends in it. A line that is begun stays in its buffer for the next block.
+pub fn block(s: State, line: &mut [u8], begun: usize, bytes: &[u8], paper: &mut [u8]) -> Progress
+    requires { ⌜ length (now line) ≡ longest ⌝ ∗ ⌜ longest-printed * length (now bytes) ≤ length (now paper) ⌝ }
+    ensures { λ r. ⌜ Counts (r .printed) (now (paper .exit)) ⌝ }
+    ensures { λ r. ⌜ Reads (now (bytes .entry)) s (now (line .entry)) begun (r .state) (now (line .exit)) (r .begun) (take (r .printed) (now (paper .exit))) ⌝ }
 {
-    let mut row = [0u8; LONGEST_ROW];
+    let mut out = [0u8; LONGEST_PRINTED];
     let mut t = s;
     let mut n = begun;
     let mut printed = 0;
@@ -122,14 +99,14 @@ pub fn block(s: State, held: &mut [u8], begun: usize, bytes: &[u8], out: &mut [u
     while i < bytes.len() {
         let b = bytes[i];
         if b == b'\n' {
-            let turn = ended(t, held, n, &mut row);
+            let turn = ended(t, line, n, &mut out);
             let next = turn.state;
             t = next;
             n = 0;
             let k = turn.printed;
-            printed = text::put(out, printed, &row[..k]);
+            printed = text::put(paper, printed, &out[..k]);
         } else {
-            n = longer(held, n, b);
+            n = longer(line, n, b);
         }
         i += 1;
     }
@@ -141,14 +118,14 @@ pub fn block(s: State, held: &mut [u8], begun: usize, bytes: &[u8], out: &mut [u
 }
 
 // The end of the input: a last line needs no newline.
-pub fn last(s: State, held: &[u8], begun: usize, row: &mut [u8; LONGEST_ROW]) -> usize
-    requires { ⌜ length (now held) ≡ longest ⌝ }
-    ensures { λ r. ⌜ Counts r (now (row .exit)) ⌝ }
-    ensures { λ r. ⌜ Ends s (now (held .entry)) begun (take r (now (row .exit))) ⌝ }
+pub fn last(s: State, line: &[u8], begun: usize, out: &mut [u8; LONGEST_PRINTED]) -> usize
+    requires { ⌜ length (now line) ≡ longest ⌝ }
+    ensures { λ r. ⌜ Counts r (now (out .exit)) ⌝ }
+    ensures { λ r. ⌜ Ends s (now (line .entry)) begun (take r (now (out .exit))) ⌝ }
 {
     if begun == 0 {
         return 0;
     }
-    let turn = ended(s, held, begun, row);
+    let turn = ended(s, line, begun, out);
     turn.printed
 }

@@ -10,14 +10,14 @@ use Rattle.kernel.specs.Status.{waiters}
 use Rattle.kernel.specs.Kernel.{Kernel, task, queue, semaphore, with-status, with-semaphore}
 use Rattle.kernel.specs.Moves.{move, dispatch, schedule}
 use Rattle.kernel.specs.Semaphores.{counting, lowest-semaphore, wait, signal-to, signal}
-use Rattle.kernel.specs.Calls.{new-semaphore}
+use Rattle.kernel.specs.Calls.{new-semaphore, verb}
 use Rattle.kernel.specs.Seen.{seen}
 use Rattle.kernel.proofs.Lowest.{found}
 use Rattle.refusals.specs.Tested.{Legal}
 use Rattle.refusals.proofs.Answers.{allows}
 
 -- A legal new semaphore finds an unused one.
-pub room : {s : State} {count : ℕ} → Legal (new-semaphore count) s → lowest-semaphore (seen s) < semaphore-count
+pub room : {s : State} {count : ℕ} → Legal (verb (new-semaphore count)) s → lowest-semaphore (seen s) < semaphore-count
 unfolding lowest-semaphore
 room l = found semaphore-count _ (allows l .allowed .1) .0
 

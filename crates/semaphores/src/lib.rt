@@ -8,6 +8,7 @@ ghost use Rattle.kernel.specs.Kernel.{queue, semaphore, with-semaphore};
 ghost use Rattle.kernel.specs.Semaphores as Semaphores;
 ghost use Rattle.kernel.specs.Semaphores.{lowest-semaphore};
 ghost use Rattle.kernel.specs.Calls as Calls;
+ghost use Rattle.kernel.specs.Calls.{verb};
 ghost use Rattle.kernel.specs.Refusals.{empty, main-runs, hard-runs, no-semaphore};
 ghost use Rattle.kernel.specs.Seen.{seen};
 ghost use Rattle.kernel.specs.Shows.{Kept, Shows};
@@ -71,7 +72,7 @@ fn lowest(s: State) -> usize
 // ---- new semaphore
 
 fn may_make(s: State, count: u64) -> Verdict
-    ensures { λ r. ⌜ Refusal (Calls.new-semaphore count) s r ⌝ }
+    ensures { λ r. ⌜ Refusal (verb (Calls.new-semaphore count)) s r ⌝ }
 {
     let every = refusals::every_call(s);
     let sized = refusals::row(
@@ -84,7 +85,7 @@ fn may_make(s: State, count: u64) -> Verdict
 }
 
 fn made(s: State, n: usize, count: u64) -> State
-    requires { ⌜ Legal (Calls.new-semaphore count) s ⌝ ∗ ⌜ n ≡ lowest-semaphore (seen s) ⌝ }
+    requires { ⌜ Legal (verb (Calls.new-semaphore count)) s ⌝ ∗ ⌜ n ≡ lowest-semaphore (seen s) ⌝ }
     ensures { λ r. ⌜ Shows r (Semaphores.new-semaphore count (seen s)) ⌝ }
 {
     store(s, n, true, count as u16)
@@ -92,12 +93,12 @@ fn made(s: State, n: usize, count: u64) -> State
 
 // Takes the lowest unused semaphore, with this count, and answers its number.
 pub fn new_semaphore(s: State, count: u64) -> Reply
-    ensures { λ r. ⌜ Unlent (Calls.new-semaphore count) s r ⌝ }
+    ensures { λ r. ⌜ Unlent (verb (Calls.new-semaphore count)) s r ⌝ }
 {
     let verdict = may_make(s, count);
     match verdict {
         Verdict::Refuses(_) => refusals::refuse(s, verdict),
-        Verdict::Passes => {
+        Verdict::Accepts => {
             let n = lowest(s);
             let next = made(s, n, count);
             refusals::done_with(next, n)
@@ -119,7 +120,7 @@ fn has_waiters(s: State, n: usize) -> bool
 }
 
 fn may_delete(s: State, n: usize) -> Verdict
-    ensures { λ r. ⌜ Refusal (Calls.delete n) s r ⌝ }
+    ensures { λ r. ⌜ Refusal (verb (Calls.delete n)) s r ⌝ }
 {
     let every = refusals::every_call(s);
     let unused = no_semaphore(s, n);
@@ -129,7 +130,7 @@ fn may_delete(s: State, n: usize) -> Verdict
 }
 
 fn deleted(s: State, n: usize) -> State
-    requires { ⌜ Legal (Calls.delete n) s ⌝ }
+    requires { ⌜ Legal (verb (Calls.delete n)) s ⌝ }
     ensures { λ r. ⌜ Shows r (Semaphores.delete n (seen s)) ⌝ }
 {
     store(s, n, false, 0)
@@ -137,13 +138,13 @@ fn deleted(s: State, n: usize) -> State
 
 // A semaphore at which no one waits is unused again.
 pub fn delete(s: State, semaphore: SemaphoreNo) -> Reply
-    ensures { λ r. ⌜ Unlent (Calls.delete (semaphore .0)) s r ⌝ }
+    ensures { λ r. ⌜ Unlent (verb (Calls.delete (semaphore .0))) s r ⌝ }
 {
     let n = semaphore.0;
     let verdict = may_delete(s, n);
     match verdict {
         Verdict::Refuses(_) => refusals::refuse(s, verdict),
-        Verdict::Passes => {
+        Verdict::Accepts => {
             let next = deleted(s, n);
             refusals::done(next, 0)
         }
@@ -163,7 +164,7 @@ fn never_waits(s: State) -> bool
 }
 
 fn may_wait(s: State, n: usize) -> Verdict
-    ensures { λ r. ⌜ Refusal (Calls.wait n) s r ⌝ }
+    ensures { λ r. ⌜ Refusal (verb (Calls.wait n)) s r ⌝ }
 {
     let every = refusals::every_call(s);
     let barred = never_waits(s);
@@ -173,7 +174,7 @@ fn may_wait(s: State, n: usize) -> Verdict
 }
 
 fn waited(s: State, n: usize) -> State
-    requires { ⌜ Legal (Calls.wait n) s ⌝ }
+    requires { ⌜ Legal (verb (Calls.wait n)) s ⌝ }
     ensures { λ r. ⌜ Shows r (Semaphores.wait n (seen s)) ⌝ }
 {
     let count = count_of(s, n);
@@ -182,19 +183,19 @@ fn waited(s: State, n: usize) -> State
     }
     let i = s.running.0;
     let semaphore = SemaphoreNo(n);
-    let waiting = processor::turn(s, i, Status::Wait(semaphore));
+    let waiting = processor::restate(s, i, Status::Wait(semaphore));
     processor::dispatch(waiting)
 }
 
 // Count above 0 falls by 1, else the running task WAITs and the first ready task runs.
 pub fn wait(s: State, semaphore: SemaphoreNo) -> Reply
-    ensures { λ r. ⌜ Unlent (Calls.wait (semaphore .0)) s r ⌝ }
+    ensures { λ r. ⌜ Unlent (verb (Calls.wait (semaphore .0))) s r ⌝ }
 {
     let n = semaphore.0;
     let verdict = may_wait(s, n);
     match verdict {
         Verdict::Refuses(_) => refusals::refuse(s, verdict),
-        Verdict::Passes => {
+        Verdict::Accepts => {
             let next = waited(s, n);
             refusals::done(next, 0)
         }
@@ -204,7 +205,7 @@ pub fn wait(s: State, semaphore: SemaphoreNo) -> Reply
 // ---- signal
 
 fn may_signal(s: State, n: usize) -> Verdict
-    ensures { λ r. ⌜ Refusal (Calls.signal n) s r ⌝ }
+    ensures { λ r. ⌜ Refusal (verb (Calls.signal n)) s r ⌝ }
 {
     let every = refusals::every_call(s);
     let unused = no_semaphore(s, n);
@@ -214,12 +215,12 @@ fn may_signal(s: State, n: usize) -> Verdict
 }
 
 fn signalled(s: State, n: usize) -> State
-    requires { ⌜ Legal (Calls.signal n) s ⌝ }
+    requires { ⌜ Legal (verb (Calls.signal n)) s ⌝ }
     ensures { λ r. ⌜ Shows r (Semaphores.signal n (seen s)) ⌝ }
 {
     let x = queues::first(s, State::WAITERS + n);
     if x < State::TASKS {
-        let ready = processor::turn(s, x, Status::Ready);
+        let ready = processor::restate(s, x, Status::Ready);
         return processor::schedule(ready);
     }
     let count = count_of(s, n);
@@ -228,13 +229,13 @@ fn signalled(s: State, n: usize) -> State
 
 // The first waiter becomes READY, and is scheduled; with no waiter the count rises by 1.
 pub fn signal(s: State, semaphore: SemaphoreNo) -> Reply
-    ensures { λ r. ⌜ Unlent (Calls.signal (semaphore .0)) s r ⌝ }
+    ensures { λ r. ⌜ Unlent (verb (Calls.signal (semaphore .0))) s r ⌝ }
 {
     let n = semaphore.0;
     let verdict = may_signal(s, n);
     match verdict {
         Verdict::Refuses(_) => refusals::refuse(s, verdict),
-        Verdict::Passes => {
+        Verdict::Accepts => {
             let next = signalled(s, n);
             refusals::done(next, 0)
         }

@@ -12,8 +12,9 @@ use Rattle.kernel.specs.declared.Class.the-variants.{Nrt, Hard}
 use Rattle.kernel.specs.Sizes.{whole}
 use Rattle.kernel.specs.Status.{FREE}
 use Rattle.kernel.specs.Kernel.{Bare, Kernel, blank, hard, share-of, is}
-use Rattle.kernel.specs.Good.{GoodTask, held-share, shares}
+use Rattle.kernel.specs.Good.{GoodTask, counted-share, shares}
 use Rattle.kernel.proofs.Shares.{share-least}
+use Rattle.kernel.proofs.Sizes.{sizes}
 use Rattle.sound_clauses.specs.Task.{HardFits}
 
 -- ---- how large
@@ -23,15 +24,15 @@ pub hard-fits : {k : Kernel} {x : ℕ} {a : Bare} → GoodTask k x a → HardFit
 hard-fits g h = g .main-or-sized .fits (λ e. false≢true (sym (ap hard (g .main-or-sized .main-class e)) ∙ h))
 
 pub share-most : (class : Class) → HardFits class → share-of class ≤ whole
-share-most (Hard p c) f = let h = f refl in share-least p c whole (h .0) (omega arith)
+share-most (Hard p c) f = let h = sizes (f refl) in share-least p c whole (h .some-period) (omega arith)
 share-most (Nrt p) f = omega arith
 
 none-or : (b : Bool) {n m : ℕ} → n ≤ m → cond b 0 n ≤ m
 none-or true h = omega arith
 none-or false h = h
 
-pub held-most : (a : Bare) → HardFits (a .class) → held-share a ≤ whole
-held-most a f = none-or (is FREE a) (share-most (a .class) f)
+pub counted-most : (a : Bare) → HardFits (a .class) → counted-share a ≤ whole
+counted-most a f = none-or (is FREE a) (share-most (a .class) f)
 
 -- ---- task by task
 
@@ -39,7 +40,7 @@ held-most a f = none-or (is FREE a) (share-most (a .class) f)
 abbrev pub SummedTo : List Bare → ℕ → ℕ → Type 0
 SummedTo ts x total = total + shares (drop x ts) ≡ shares ts
 
-pub one-more : (ts : List Bare) (x total : ℕ) → x < length ts → SummedTo ts x total → SummedTo ts (x + 1) (total + held-share (getD ts x blank))
+pub one-more : (ts : List Bare) (x total : ℕ) → x < length ts → SummedTo ts x total → SummedTo ts (x + 1) (total + counted-share (getD ts x blank))
 one-more ts x total h e = let left = ap shares (drop-cons ts x blank h) in rw add-one (omega arith)
 
 pub summed : (ts : List Bare) (x total : ℕ) → length ts ≤ x → SummedTo ts x total → total ≡ shares ts

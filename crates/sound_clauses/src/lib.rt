@@ -6,10 +6,10 @@ ghost use Prim.Native.Nat.{ℕ, _<_, _≤_};
 ghost use Rattle.kernel.specs.declared.Class.the-variants.{Nrt, Hard};
 ghost use Rattle.kernel.specs.declared.Status.the-variants.{Wait};
 ghost use Rattle.kernel.specs.Sizes.{task-count, semaphore-count};
-ghost use Rattle.kernel.specs.Status.{READY, EXE, ready};
+ghost use Rattle.kernel.specs.Status.{READY, EXE, ready-queue};
 ghost use Rattle.kernel.specs.Kernel.{Kernel, task, queue, hard, share, share-of};
 ghost use Rattle.kernel.specs.Seen.{bare, seen};
-ghost use Rattle.kernel.specs.Good.{NoLater, Fits, Timely, Names, MainOrSized, Suited, IdleAhead, InTime, Runs, Shared, Counted, Clocked, GoodTask, GoodSemaphore, held-share};
+ghost use Rattle.kernel.specs.Good.{NoLater, Fits, Timely, Names, MainOrSized, Suited, IdleAhead, InTime, Runs, Shared, Counted, Clocked, GoodTask, GoodSemaphore, counted-share};
 ghost use Rattle.sound_clauses.specs.Task.{Around, HardFits};
 use kernel::Class;
 use kernel::Semaphore;
@@ -39,26 +39,13 @@ pub fn is_hard(class: Class) -> bool
     }
 }
 
-// A cost from 1 to the period leaves no period of 0.
-fn hard_fits(period: u32, cost: u32) -> bool
-    ensures { λ r. ⌜ ((r ≡ true) ↔ Fits (Hard period cost)) ⌝ }
-{
-    if State::LONGEST_PERIOD < period {
-        return false;
-    }
-    if cost < 1 {
-        return false;
-    }
-    cost <= period
-}
-
 // Whether a class keeps the sizes.
 fn fits(class: Class) -> bool
     ensures { λ r. ⌜ ((r ≡ true) ↔ Fits class) ⌝ }
 {
     match class {
         Class::Nrt { priority } => priority <= State::LAST_PRIORITY,
-        Class::Hard { period, cost } => hard_fits(period, cost),
+        Class::Hard { period, cost } => kernel::fitting(period as u64, cost as u64),
     }
 }
 
@@ -225,9 +212,9 @@ pub fn tasks_good(s: State) -> bool
 
 // Whether deadline d is no later than the first ready one's.
 fn earliest(s: State, d: u32) -> bool
-    ensures { λ r. ⌜ ((r ≡ true) ↔ NoLater (seen s) d (queue (seen s) ready)) ⌝ }
+    ensures { λ r. ⌜ ((r ≡ true) ↔ NoLater (seen s) d (queue (seen s) ready-queue)) ⌝ }
 {
-    let first = queues::first(s, State::READY);
+    let first = queues::first(s, State::READY_QUEUE);
     if first < State::TASKS {
         let a = s.tasks[first];
         return d <= a.deadline;
@@ -287,9 +274,9 @@ pub fn share_of(class: Class) -> u64
 }
 
 // What a task adds to the share total.
-fn held_share(a: Task) -> u64
+fn counted_share(a: Task) -> u64
     requires { ⌜ HardFits (a .class) ⌝ }
-    ensures { λ r. ⌜ r ≡ held-share (bare a) ⌝ }
+    ensures { λ r. ⌜ r ≡ counted-share (bare a) ⌝ }
 {
     let status = a.status;
     let n = kernel::status_number(status);
@@ -309,10 +296,10 @@ pub fn shares_good(s: State) -> bool
     let mut x: usize = 0;
     while x < State::TASKS {
         let a = s.tasks[x];
-        total += held_share(a);
+        total += counted_share(a);
         x += 1;
     }
-    let share = s.share as u64;
+    let share = s.total as u64;
     if share != total {
         return false;
     }

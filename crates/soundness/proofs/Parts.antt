@@ -14,7 +14,7 @@ use Rattle.kernel.specs.Sizes.{task-count, semaphore-count, channel-count}
 use Rattle.kernel.specs.Status.{queue-count}
 use Rattle.kernel.specs.Kernel.{task, queue}
 use Rattle.kernel.specs.Seen.{next-of, previous-of, head-of, seen}
-use Rattle.kernel.specs.Good.{GoodTask, GoodSemaphore, GoodChannel, Runs, Shared, Clocked, place, deadline-of}
+use Rattle.kernel.specs.Good.{GoodTask, GoodSemaphore, GoodChannel, Runs, Shared, Clocked, standing, deadline-of}
 use Rattle.kernel.specs.Sound.{Filed, Sound}
 use Rattle.kernel.proofs.Decided.{means}
 use Rattle.soundness.specs.Tests.{GoodQueue, Loose, FiledTask}
@@ -41,16 +41,16 @@ pub record Parts (s : State) : Type 0 where
 module _ (s : State) where
   -- A chain holds tasks alone, and none twice: that needs no test of its own.
   listed : ((q : ℕ) → q < queue-count → GoodQueue s q) → ((x : ℕ) → x < task-count → FiledTask s x) → (q : ℕ) → q < queue-count
-      → Queue task-count (place (seen s)) (deadline-of (seen s)) q (queue (seen s) q)
+      → Queue task-count (standing (seen s)) (deadline-of (seen s)) q (queue (seen s) q)
   listed g f q l =
       let xs = queue (seen s) q in
       let head = head-of (s .heads) q in
       let chain = g q l .linked .whole in
       record {
-        only = all-zip (λ x b e. (b, e)) xs (below task-count (next-of (s .tasks)) (previous-of (s .tasks)) end end head xs chain) (g q l .in-order .only);
+        only = all-zip (λ x b e. (b, e)) xs (below task-count (next-of (s .tasks)) (previous-of (s .tasks)) end end head xs chain) (g q l .sorted .only);
         all = λ x lx e. rw e at (f x lx .stands (rw e l));
         once = once task-count (next-of (s .tasks)) (previous-of (s .tasks)) end head xs chain;
-        rising = g q l .in-order .rising;
+        rising = g q l .sorted .rising;
       }
 
   filed : ((q : ℕ) → q < queue-count → GoodQueue s q) → ((x : ℕ) → x < task-count → FiledTask s x) → Filed s
@@ -82,10 +82,10 @@ module _ (s : State) where
     λ g.
         let k = g .good in
         record {
-          queues = λ q l. record { linked = g .filed .linked q l; in-order = record { only = all-map (λ x o. o .1) (queue (seen s) q) (k .queues q l .only); rising = k .queues q l .rising } };
+          queues = λ q l. record { linked = g .filed .linked q l; sorted = record { only = all-map (λ x o. o .1) (queue (seen s) q) (k .queues q l .only); rising = k .queues q l .rising } };
           filed = λ x l.
               record {
-                stands = λ h. k .queues (place (seen s) x) h .all x l refl;
+                stands = λ h. k .queues (standing (seen s) x) h .all x l refl;
                 loose = λ h. record { next = g .filed .alone-next x l h; previous = g .filed .alone-previous x l h };
               };
           tasks = k .tasks;
@@ -99,7 +99,7 @@ module _ (s : State) where
 
 -- ---- one task
 
-module _ {s : State} {x q : ℕ} {A : Type 0} (e : place (seen s) x ≡ q) where
+module _ {s : State} {x q : ℕ} {A : Type 0} (e : standing (seen s) x ≡ q) where
   pub in-queue : q < queue-count → A ↔ Among x (queue (seen s) q) → A ↔ FiledTask s x
   in-queue l d = means d (λ m. record { stands = λ h. rw e m; loose = λ h. absurd (omega arith) }) (λ f. rw e at (f .stands (rw e l)))
 

@@ -14,10 +14,10 @@ use Rattle.kernel.specs.Sizes.{task-count}
 use Rattle.kernel.specs.Status.{queue-of, queue-count}
 use Rattle.kernel.specs.Kernel.{Bare, queue}
 use Rattle.kernel.specs.Seen.{next-of, previous-of, head-of, record-at, seen}
-use Rattle.kernel.specs.Good.{place, deadline-of}
+use Rattle.kernel.specs.Good.{standing, deadline-of}
 use Rattle.kernel.proofs.Seen.{task-seen, queue-seen}
 use Rattle.queues.specs.Links.{Linked}
-use Rattle.soundness.specs.Tests.{InOrder}
+use Rattle.soundness.specs.Tests.{Sorted}
 
 -- What the test of the links from `now` on says is whether X.
 pub record Testing (s : State) (most : ℕ) (back now : ℤ) (X : Type 0) : Type 0 where
@@ -33,7 +33,7 @@ left s x = length (onward task-count (next-of (s .tasks)) (previous-of (s .tasks
 
 -- Each has the status of queue q, and a deadline no earlier than the one before it.
 abbrev pub Rises : State → ℕ → ℕ → List ℕ → Type 0
-Rises s q low xs = Ordered (λ x. place (seen s) x ≡ q) (deadline-of (seen s)) low xs
+Rises s q low xs = Ordered (λ x. standing (seen s) x ≡ q) (deadline-of (seen s)) low xs
 
 module _ (s : State) (q : ℕ) (long : length (s .heads) ≡ queue-count) (lq : q < queue-count) where
   abbrev next : ℕ → ℤ
@@ -53,10 +53,10 @@ module _ (s : State) (q : ℕ) (long : length (s .heads) ≡ queue-count) (lq : 
       let w = queue-seen s q long lq in
       record { walk = rw w (walking task-count next previous T head (rw w at (c .whole))) }
 
-  pub order-begins : Linked s q → At s (target task-count head) (Rises s q 0) (InOrder (seen s) q)
+  pub order-begins : Linked s q → At s (target task-count head) (Rises s q 0) (Sorted (seen s) q)
   order-begins c =
       let b = begins (Rises s q 0) c .walk in
-      let o = ordered (λ x. place (seen s) x ≡ q) (deadline-of (seen s)) (queue (seen s) q) in
+      let o = ordered (λ x. standing (seen s) x ≡ q) (deadline-of (seen s)) (queue (seen s) q) in
       record {
         walk = record {
           now = b .now;
@@ -87,7 +87,7 @@ module _ {s : State} {most : ℕ} {back now : ℤ} {X : Type 0} (t : Testing s m
 -- ---- the order
 
 module _ {s : State} {q low x : ℕ} {X : Type 0} (a : At s x (Rises s q low) X) (l : x < task-count) where
-  place-read : place (seen s) x ≡ queue-of (record-at (s .tasks) x .status)
+  place-read : standing (seen s) x ≡ queue-of (record-at (s .tasks) x .status)
   place-read = ap (λ (b : Bare). queue-of (b .status)) (task-seen s x)
 
   deadline-read : deadline-of (seen s) x ≡ record-at (s .tasks) x .deadline

@@ -7,17 +7,17 @@ use Rattle.kernel.specs.declared.State.{State}
 use Rattle.kernel.specs.Status.{queue-count}
 use Rattle.kernel.specs.Kernel.{Kernel, queue}
 use Rattle.kernel.specs.Seen.{next-of, previous-of, seen}
-use Rattle.kernel.specs.Good.{place, deadline-of}
+use Rattle.kernel.specs.Good.{standing, deadline-of}
 use Rattle.queues.specs.Links.{Linked}
 
 -- The tasks of queue q have its status, and stand by rising deadline.
-pub record InOrder (k : Kernel) (q : ℕ) : Type 0 where
-  pub only : All (λ (x : ℕ). place k x ≡ q) (queue k q)
+pub record Sorted (k : Kernel) (q : ℕ) : Type 0 where
+  pub only : All (λ (x : ℕ). standing k x ≡ q) (queue k q)
   pub rising : Rising (deadline-of k) (queue k q)
 
 pub record GoodQueue (s : State) (q : ℕ) : Type 0 where
   pub linked : Linked s q
-  pub in-order : InOrder (seen s) q
+  pub sorted : Sorted (seen s) q
 
 -- Task x has both links -1.
 pub record Loose (s : State) (x : ℕ) : Type 0 where
@@ -26,5 +26,5 @@ pub record Loose (s : State) (x : ℕ) : Type 0 where
 
 -- Task x stands in the queue of its status, if that has one, and is loose if not.
 pub record FiledTask (s : State) (x : ℕ) : Type 0 where
-  pub stands : place (seen s) x < queue-count → Among x (queue (seen s) (place (seen s) x))
-  pub loose : queue-count ≤ place (seen s) x → Loose s x
+  pub stands : standing (seen s) x < queue-count → Among x (queue (seen s) (standing (seen s) x))
+  pub loose : queue-count ≤ standing (seen s) x → Loose s x

@@ -10,7 +10,7 @@ ghost use Rattle.kernel.specs.Kernel.{queue};
 ghost use Rattle.kernel.specs.Seen.{seen};
 ghost use Rattle.kernel.specs.Sound.{Sound};
 ghost use Rattle.queues.specs.Links.{Linked};
-ghost use Rattle.soundness.specs.Tests.{InOrder, GoodQueue, Loose, FiledTask};
+ghost use Rattle.soundness.specs.Tests.{Sorted, GoodQueue, Loose, FiledTask};
 use kernel::State;
 
 // Whether two links are the same.
@@ -50,9 +50,9 @@ fn chained(s: State, q: usize) -> bool
 }
 
 // Whether the tasks of queue q have its status and stand by rising deadline.
-fn in_order(s: State, q: usize) -> bool
+fn sorted(s: State, q: usize) -> bool
     requires { ⌜ q < queue-count ⌝ ∗ ⌜ Linked s q ⌝ }
-    ensures { λ r. ⌜ ((r ≡ true) ↔ InOrder (seen s) q) ⌝ }
+    ensures { λ r. ⌜ ((r ≡ true) ↔ Sorted (seen s) q) ⌝ }
 {
     let heads = s.heads;
     let head = heads[q];
@@ -102,7 +102,7 @@ fn queue_good(s: State, q: usize) -> bool
     if !chained(s, q) {
         return false;
     }
-    in_order(s, q)
+    sorted(s, q)
 }
 
 // Whether every queue is.

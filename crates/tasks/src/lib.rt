@@ -4,6 +4,7 @@ ghost use mathlib.Core.Bool.{not, _||_};
 ghost use Prim.Native.Nat.{_<_};
 ghost use Rattle.kernel.specs.Tasks as Tasks;
 ghost use Rattle.kernel.specs.Calls as Calls;
+ghost use Rattle.kernel.specs.Calls.{verb};
 ghost use Rattle.kernel.specs.Refusals.{main-runs, hard-runs};
 ghost use Rattle.kernel.specs.Seen.{seen};
 ghost use Rattle.kernel.specs.Shows.{Shows};
@@ -19,7 +20,7 @@ use refusals::Verdict;
 // ---- activate
 
 fn may_activate(s: State, n: usize) -> Verdict
-    ensures { λ r. ⌜ Refusal (Calls.activate n) s r ⌝ }
+    ensures { λ r. ⌜ Refusal (verb (Calls.activate n)) s r ⌝ }
 {
     let every = refusals::every_call(s);
     let unused = refusals::no_task_in_use(s, n);
@@ -40,7 +41,7 @@ fn release(class: Class, clock: u32, deadline: u32) -> u32
 }
 
 fn activated(s: State, n: usize) -> State
-    requires { ⌜ Legal (Calls.activate n) s ⌝ }
+    requires { ⌜ Legal (verb (Calls.activate n)) s ⌝ }
     ensures { λ r. ⌜ Shows r (Tasks.activate n (seen s)) ⌝ }
 {
     let t = s.tasks[n];
@@ -52,13 +53,13 @@ fn activated(s: State, n: usize) -> State
 
 // Activate a SLEEP task: it joins the ready queue; then schedule.
 pub fn activate(s: State, task: TaskNo) -> Reply
-    ensures { λ r. ⌜ Unlent (Calls.activate (task .0)) s r ⌝ }
+    ensures { λ r. ⌜ Unlent (verb (Calls.activate (task .0))) s r ⌝ }
 {
     let n = task.0;
     let verdict = may_activate(s, n);
     match verdict {
         Verdict::Refuses(_) => refusals::refuse(s, verdict),
-        Verdict::Passes => {
+        Verdict::Accepts => {
             let next = activated(s, n);
             refusals::done(next, 0)
         }
@@ -68,21 +69,21 @@ pub fn activate(s: State, task: TaskNo) -> Reply
 // ---- sleep
 
 fn slept(s: State) -> State
-    requires { ⌜ Legal Calls.sleep s ⌝ }
+    requires { ⌜ Legal (verb Calls.sleep) s ⌝ }
     ensures { λ r. ⌜ Shows r (Tasks.sleep (seen s)) ⌝ }
 {
-    let asleep = processor::turn(s, s.running.0, Status::Sleep);
+    let asleep = processor::restate(s, s.running.0, Status::Sleep);
     processor::dispatch(asleep)
 }
 
 // The running task goes to SLEEP, and the first ready task runs.
 pub fn sleep(s: State) -> Reply
-    ensures { λ r. ⌜ Unlent Calls.sleep s r ⌝ }
+    ensures { λ r. ⌜ Unlent (verb Calls.sleep) s r ⌝ }
 {
     let verdict = refusals::not_by_main(s);
     match verdict {
         Verdict::Refuses(_) => refusals::refuse(s, verdict),
-        Verdict::Passes => {
+        Verdict::Accepts => {
             let next = slept(s);
             refusals::done(next, 0)
         }
@@ -102,7 +103,7 @@ fn never_cycles(s: State) -> bool
 }
 
 fn may_cycle(s: State) -> Verdict
-    ensures { λ r. ⌜ Refusal Calls.cycle s r ⌝ }
+    ensures { λ r. ⌜ Refusal (verb Calls.cycle) s r ⌝ }
 {
     let every = refusals::every_call(s);
     let barred = never_cycles(s);
@@ -110,7 +111,7 @@ fn may_cycle(s: State) -> Verdict
 }
 
 fn cycled(s: State) -> State
-    requires { ⌜ Legal Calls.cycle s ⌝ }
+    requires { ⌜ Legal (verb Calls.cycle) s ⌝ }
     ensures { λ r. ⌜ Shows r (Tasks.cycle (seen s)) ⌝ }
 {
     let i = s.running.0;
@@ -118,7 +119,7 @@ fn cycled(s: State) -> State
     let class = t.class;
     let deadline = t.deadline;
     if s.clock < deadline {
-        let idle = processor::turn(s, i, Status::Idle);
+        let idle = processor::restate(s, i, Status::Idle);
         return processor::dispatch(idle);
     }
     let period = kernel::period_of(class);
@@ -128,12 +129,12 @@ fn cycled(s: State) -> State
 
 // The running HARD task is idle until its deadline; at its deadline it is ready again, a period later. The first ready task runs.
 pub fn cycle(s: State) -> Reply
-    ensures { λ r. ⌜ Unlent Calls.cycle s r ⌝ }
+    ensures { λ r. ⌜ Unlent (verb Calls.cycle) s r ⌝ }
 {
     let verdict = may_cycle(s);
     match verdict {
         Verdict::Refuses(_) => refusals::refuse(s, verdict),
-        Verdict::Passes => {
+        Verdict::Accepts => {
             let next = cycled(s);
             refusals::done(next, 0)
         }

@@ -22,7 +22,7 @@ pub fn memories() {
     s.clock = State::LIFETIME - 1;
     s = ticked(s, 1);
     s = short(s);
-    s.share = 7;
+    s.total = 7;
     short(s);
 }
 
@@ -35,7 +35,7 @@ pub fn states() {
     s = ticked(s, 2);
     s = open(s, 513, 2);
     s = every(s, 4, &mut memory);
-    s.share = 7;
+    s.total = 7;
     s = open(s, 513, 2);
     every(s, 4, &mut memory);
 }

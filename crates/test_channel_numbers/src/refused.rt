@@ -44,7 +44,7 @@ pub fn unsound() {
     let mut memory = [7u8; 16384];
     let mut s = State::fresh();
     s = open(s, 4, 2);
-    s.share = 5;
+    s.total = 5;
     s = open(s, 4, 2);
     every(s, 0, &mut memory);
     memory_shown(&memory);

@@ -7,7 +7,7 @@ use test_lines::ticked;
 // -11: a share total that is no sum.
 fn unsound() {
     let mut s = State::fresh();
-    s.share = 5;
+    s.total = 5;
     s = after(b"clock", questions::clock(s));
     s = after(b"tick", ticks::tick(s));
     s = after(b"hard 4 1", creation::create_hard(s, 4, 1));
@@ -22,7 +22,7 @@ fn overrun() {
     s = ticked(s, 5);
     s = after(b"sleep", tasks::sleep(s));
     s = after(b"status 1", questions::status(s, TaskNo(1)));
-    s.share = 7;
+    s.total = 7;
     after(b"clock", questions::clock(s));
 }
 

@@ -30,15 +30,15 @@ fn numbers(s: State) {
     write(b", stop ");
     signed(reason(stop));
     number(b", running ", s.running.0 as u64);
-    number(b", share ", s.share as u64);
+    number(b", share ", s.total as u64);
     write(b"\n");
 }
 
 fn firsts(s: State) {
     let heads = s.heads;
-    link(b"first ready ", heads[State::READY]);
-    link(b", idle ", heads[State::IDLE]);
-    link(b", zombie ", heads[State::ZOMBIE]);
+    link(b"first ready ", heads[State::READY_QUEUE]);
+    link(b", idle ", heads[State::IDLE_QUEUE]);
+    link(b", zombie ", heads[State::ZOMBIE_QUEUE]);
     write(b"\n");
 }
 

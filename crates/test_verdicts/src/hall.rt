@@ -68,9 +68,9 @@ pub fn hall() -> State {
     s = with_clock(s, 5, Stop::Going);
     s = with_running(s, 1);
     s = with_share(s, 850000);
-    s = with_head(s, State::READY, 2);
-    s = with_head(s, State::IDLE, 4);
-    s = with_head(s, State::ZOMBIE, 5);
+    s = with_head(s, State::READY_QUEUE, 2);
+    s = with_head(s, State::IDLE_QUEUE, 4);
+    s = with_head(s, State::ZOMBIE_QUEUE, 5);
     s = with_head(s, State::WAITERS + 1, 6);
     s = with_semaphore(s, 0, true, 3);
     s = with_semaphore(s, 1, true, 0);
@@ -91,7 +91,7 @@ pub fn with_clock(s: State, clock: u32, stop: Stop) -> State {
         clock,
         stop,
         running,
-        share: s.share,
+        total: s.total,
         tasks,
         heads,
         semaphores,
@@ -107,9 +107,9 @@ pub fn with_running(s: State, x: usize) -> State {
     r
 }
 
-pub fn with_share(s: State, share: u32) -> State {
+pub fn with_share(s: State, total: u32) -> State {
     let mut r = s;
-    r.share = share;
+    r.total = total;
     r
 }
 

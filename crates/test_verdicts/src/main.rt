@@ -75,10 +75,10 @@ fn sound_ones() {
 
 // Links and heads.
 fn links() {
-    head(b"ready queue lost", State::READY, -1);
-    head(b"head past the table", State::READY, 32);
+    head(b"ready queue lost", State::READY_QUEUE, -1);
+    head(b"head past the table", State::READY_QUEUE, 32);
     head(b"head -2 for none", State::WAITERS, -2);
-    head(b"head in the middle", State::READY, 3);
+    head(b"head in the middle", State::READY_QUEUE, 3);
     task(
         b"next link skips one",
         2,
@@ -114,7 +114,7 @@ fn links() {
         1,
         hard(Status::Exe, 10, 2, 8, 2, -1),
     );
-    head(b"idle task also a zombie's head", State::ZOMBIE, 4);
+    head(b"idle task also a zombie's head", State::ZOMBIE_QUEUE, 4);
 }
 
 // Which tasks a queue holds, and in what order.

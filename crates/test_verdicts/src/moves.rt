@@ -41,9 +41,9 @@ fn print_queue(name: &[u8], s: State, q: usize) {
 
 fn print(step: &[u8], s: State) {
     test_lines::write(step);
-    print_queue(b"  ready:", s, State::READY);
-    print_queue(b"  idle:", s, State::IDLE);
-    print_queue(b"  zombie:", s, State::ZOMBIE);
+    print_queue(b"  ready:", s, State::READY_QUEUE);
+    print_queue(b"  idle:", s, State::IDLE_QUEUE);
+    print_queue(b"  zombie:", s, State::ZOMBIE_QUEUE);
     print_queue(b"  waiters of 1:", s, State::WAITERS + 1);
     if soundness::sound(s) {
         test_lines::write(b"  sound\n");

@@ -9,8 +9,6 @@ use Prim.Native.Char.{code}
 use lib.Dec.{ltb}
 use lib.IntN.{ℤ, pos, negsuc}
 use lib.ListN.{length, take}
-use Rattle.kernel.specs.declared.Answer.{Answer}
-use Rattle.kernel.specs.Answer as Answer
 
 -- The bytes of a text of ASCII characters.
 abbrev pub bytes : String → List ℕ
@@ -41,12 +39,12 @@ value n [] = n
 value n (b ∷ bs) = value (n * 10 + (b - 48)) bs
 
 -- Each call prints answer, running task, clock.
-abbrev pub row : Answer → ℕ → ℕ → List ℕ
-row a running clock = number (Answer.number a) ++ (bytes " " ++ (decimal running ++ (bytes " " ++ (decimal clock ++ bytes "\n"))))
+abbrev pub printed : ℤ → ℕ → ℕ → List ℕ
+printed answer running clock = number answer ++ (bytes " " ++ (decimal running ++ (bytes " " ++ (decimal clock ++ bytes "\n"))))
 
--- No row is longer.
-abbrev pub longest-row : ℕ
-longest-row = 64
+-- No printed line is longer.
+abbrev pub longest-printed : ℕ
+longest-printed = 64
 
 -- A buffer held b, and the text that was begun in it was at bytes long. Now it holds b′, and that text goes on with these bytes and is n long.
 pub record Continued (b : List ℕ) (at : ℕ) (text b′ : List ℕ) (n : ℕ) : Type 0 where

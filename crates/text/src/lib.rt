@@ -2,17 +2,17 @@
 ghost use mathlib.Core.Path.{_≡_};
 ghost use Prim.Native.Nat.{_+_, _≤_};
 ghost use lib.ListN.{length};
-ghost use Rattle.kernel.specs.Answer.{number as answer-number};
+ghost use Rattle.kernel.specs.Answer.{said};
 ghost use Rattle.text.specs.Text as Text;
-ghost use Rattle.text.specs.Text.{Continued, longest-number, longest-row};
+ghost use Rattle.text.specs.Text.{Continued, longest-number, longest-printed};
 use kernel::Answer;
 use kernel::TaskNo;
 
 // No number is longer: 2^64 - 1 and -2^63 have 20 characters.
 pub const LONGEST_NUMBER: usize = 20;
 
-// No row is longer: three numbers, with a byte behind each.
-pub const LONGEST_ROW: usize = 64;
+// No printed line is longer: three numbers, with a byte behind each.
+pub const LONGEST_PRINTED: usize = 64;
 
 pub fn put(buffer: &mut [u8], at: usize, text: &[u8]) -> usize
     requires { ⌜ at + length (now text) ≤ length (now buffer) ⌝ }
@@ -22,21 +22,13 @@ pub fn put(buffer: &mut [u8], at: usize, text: &[u8]) -> usize
     at + text.len()
 }
 
-// A decimal, where there may be room for its own digits only.
-fn spell(buffer: &mut [u8], at: usize, n: u64) -> usize
+fn decimal(buffer: &mut [u8], at: usize, n: u64) -> usize
     requires { ⌜ at + length (Text.decimal n) ≤ length (now buffer) ⌝ }
     ensures { λ r. ⌜ Continued (now (buffer .entry)) at (Text.decimal n) (now (buffer .exit)) r ⌝ }
 {
     let mut digits = [0u8; LONGEST_NUMBER];
     let k = io::decimal(n, &mut digits);
     put(buffer, at, &digits[..k])
-}
-
-pub fn decimal(buffer: &mut [u8], at: usize, n: u64) -> usize
-    requires { ⌜ at + longest-number ≤ length (now buffer) ⌝ }
-    ensures { λ r. ⌜ Continued (now (buffer .entry)) at (Text.decimal n) (now (buffer .exit)) r ⌝ }
-{
-    spell(buffer, at, n)
 }
 
 pub fn number(buffer: &mut [u8], at: usize, n: i64) -> usize
@@ -46,15 +38,15 @@ pub fn number(buffer: &mut [u8], at: usize, n: i64) -> usize
     if n < 0 {
         let next = put(buffer, at, b"-");
         let below = -1 - n;
-        spell(buffer, next, below as u64 + 1)
+        decimal(buffer, next, below as u64 + 1)
     } else {
-        spell(buffer, at, n as u64)
+        decimal(buffer, at, n as u64)
     }
 }
 
 // The number of an answer, a refusal or not.
 fn number_of(answer: Answer) -> i64
-    ensures { λ r. ⌜ r ≡ answer-number answer ⌝ }
+    ensures { λ r. ⌜ r ≡ said answer .number ⌝ }
 {
     match answer {
         Answer::Done(n) => n,
@@ -62,10 +54,15 @@ fn number_of(answer: Answer) -> i64
     }
 }
 
-// Answer, running task, clock.
-pub fn row(buffer: &mut [u8; LONGEST_ROW], answer: Answer, running: TaskNo, clock: u32) -> usize
-    ensures { λ r. ⌜ Continued (now (buffer .entry)) 0 (Text.row answer (running .0) clock) (now (buffer .exit)) r ⌝ }
-    ensures { λ r. ⌜ r ≤ longest-row ⌝ }
+// What a call prints: answer, running task, clock.
+pub fn printed(
+    buffer: &mut [u8; LONGEST_PRINTED],
+    answer: Answer,
+    running: TaskNo,
+    clock: u32,
+) -> usize
+    ensures { λ r. ⌜ Continued (now (buffer .entry)) 0 (Text.printed (said answer .number) (running .0) clock) (now (buffer .exit)) r ⌝ }
+    ensures { λ r. ⌜ r ≤ longest-printed ⌝ }
 {
     let a = number(buffer, 0, number_of(answer));
     let b = put(buffer, a, b" ");

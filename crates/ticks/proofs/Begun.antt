@@ -5,10 +5,10 @@ use Prim.Native.Nat.{_+_}
 use native.Mathlib.Omega.{arith}
 use Rattle.kernel.specs.declared.State.{State}
 use Rattle.kernel.specs.Sizes.{lifetime}
-use Rattle.kernel.specs.Status.{zombie}
+use Rattle.kernel.specs.Status.{zombie-queue}
 use Rattle.kernel.specs.Kernel.{Kernel, queue, with-clock}
 use Rattle.kernel.specs.Tick.{free-zombies, overrun}
-use Rattle.kernel.specs.Calls.{tick}
+use Rattle.kernel.specs.Calls.{tick, verb}
 use Rattle.kernel.specs.Seen.{seen}
 use Rattle.kernel.proofs.Deadlines.{before-lifetime}
 use Rattle.laws_effects.specs.UnderWay.{Freeing, Ticking}
@@ -19,7 +19,7 @@ use Rattle.laws_effects.proofs.Due.{frees}
 use Rattle.refusals.specs.Tested.{Legal}
 use Rattle.refusals.proofs.Answers.{allows}
 
-pub begun : {s : State} → Legal tick s → (s .clock + 1 ≡ lifetime → ⊥) → overrun (with-clock (seen s) (s .clock + 1)) ≡ false
+pub begun : {s : State} → Legal (verb tick) s → (s .clock + 1 ≡ lifetime → ⊥) → overrun (with-clock (seen s) (s .clock + 1)) ≡ false
     → Freeing (with-clock (seen s) (s .clock + 1))
 begun {s} h ne e =
     let g = h .sound .good in
@@ -28,4 +28,4 @@ begun {s} h ne e =
 
 pub zombies-gone : {k : Kernel} → Freeing k → Ticking (free-zombies k)
 unfolding free-zombies
-zombies-gone {k} p = all-swept frees k (queue k zombie) p refl .0 .0
+zombies-gone {k} p = all-swept frees k (queue k zombie-queue) p refl .0 .0

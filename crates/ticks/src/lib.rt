@@ -6,6 +6,7 @@ ghost use Rattle.kernel.specs.Status.{queue-count};
 ghost use Rattle.kernel.specs.Kernel.{task, share-of, period-of, with-stop};
 ghost use Rattle.kernel.specs.Tick as Tick;
 ghost use Rattle.kernel.specs.Calls as Calls;
+ghost use Rattle.kernel.specs.Calls.{verb};
 ghost use Rattle.kernel.specs.Seen.{seen};
 ghost use Rattle.kernel.specs.Shows.{Kept, Shows};
 ghost use Rattle.kernel.specs.Promise.{Unlent};
@@ -37,16 +38,16 @@ fn first_due(s: State, q: usize) -> usize
 
 // A zombie becomes FREE, and its share goes out of the total.
 fn free(s: State, x: usize) -> State
-    requires { ⌜ Kept s ⌝ ∗ ⌜ x < task-count ⌝ ∗ ⌜ HardFits (task (seen s) x .class) ⌝ ∗ ⌜ share-of (task (seen s) x .class) ≤ s .share ⌝ }
+    requires { ⌜ Kept s ⌝ ∗ ⌜ x < task-count ⌝ ∗ ⌜ HardFits (task (seen s) x .class) ⌝ ∗ ⌜ share-of (task (seen s) x .class) ≤ s .total ⌝ }
     ensures { λ r. ⌜ Shows r (Tick.free (seen s) x) ⌝ }
 {
     let t = s.tasks[x];
     let class = t.class;
-    let total = s.share as u64;
+    let total = s.total as u64;
     let share = sound_clauses::share_of(class);
     let left = total - share;
     let mut r = queues::move_task(s, x, Class::Nrt { priority: 0 }, Status::Free, 0);
-    r.share = left as u32;
+    r.total = left as u32;
     r
 }
 
@@ -56,10 +57,10 @@ fn free_zombies(s: State) -> State
     ensures { λ r. ⌜ Shows r (Tick.free-zombies (seen s)) ⌝ }
 {
     let mut r = s;
-    let mut zombie = first_due(r, State::ZOMBIE);
+    let mut zombie = first_due(r, State::ZOMBIE_QUEUE);
     while zombie < State::TASKS {
         r = free(r, zombie);
-        zombie = first_due(r, State::ZOMBIE);
+        zombie = first_due(r, State::ZOMBIE_QUEUE);
     }
     r
 }
@@ -82,11 +83,11 @@ fn wake_idle(s: State) -> State
     ensures { λ r. ⌜ Shows r (Tick.wake-idle (seen s)) ⌝ }
 {
     let mut r = s;
-    let mut idle = first_due(r, State::IDLE);
+    let mut idle = first_due(r, State::IDLE_QUEUE);
     let woke = idle < State::TASKS;
     while idle < State::TASKS {
         r = wake(r, idle);
-        idle = first_due(r, State::IDLE);
+        idle = first_due(r, State::IDLE_QUEUE);
     }
     if woke {
         return processor::schedule(r);
@@ -123,7 +124,7 @@ fn stopped(s: State, stop: Stop) -> State
         clock: s.clock,
         stop,
         running,
-        share: s.share,
+        total: s.total,
         tasks,
         heads,
         semaphores,
@@ -134,7 +135,7 @@ fn stopped(s: State, stop: Stop) -> State
 
 // Clock + 1. At lifetime: stop with -2. Else if overrun: stop with -1. Else the zombies and the IDLE tasks.
 fn ticked(s: State) -> State
-    requires { ⌜ Legal Calls.tick s ⌝ }
+    requires { ⌜ Legal (verb Calls.tick) s ⌝ }
     ensures { λ r. ⌜ Shows r (Tick.tick (seen s)) ⌝ }
 {
     let before = s.clock;
@@ -152,12 +153,12 @@ fn ticked(s: State) -> State
 
 // A clock tick.
 pub fn tick(s: State) -> Reply
-    ensures { λ r. ⌜ Unlent Calls.tick s r ⌝ }
+    ensures { λ r. ⌜ Unlent (verb Calls.tick) s r ⌝ }
 {
     let verdict = refusals::every_call(s);
     match verdict {
         Verdict::Refuses(_) => refusals::refuse(s, verdict),
-        Verdict::Passes => {
+        Verdict::Accepts => {
             let next = ticked(s);
             refusals::done(next, 0)
         }

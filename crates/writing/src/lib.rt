@@ -6,6 +6,7 @@ ghost use lib.Dec.{ltb};
 ghost use lib.ListN.{length};
 ghost use Rattle.kernel.specs.Channels as Channels;
 ghost use Rattle.kernel.specs.Calls as Calls;
+ghost use Rattle.kernel.specs.Calls.{on-channel};
 ghost use Rattle.kernel.specs.Seen.{seen};
 ghost use Rattle.kernel.specs.Shows.{Shows};
 ghost use Rattle.kernel.specs.Slices.{slice};
@@ -24,7 +25,7 @@ use refusals::Verdict;
 // ---- begin write
 
 fn may_begin(s: State, memory: usize, c: usize) -> Verdict
-    ensures { λ r. ⌜ LentRefusal (Calls.begin-write c) s memory r ⌝ }
+    ensures { λ r. ⌜ LentRefusal (on-channel (Calls.begin-write c)) s memory r ⌝ }
 {
     let closed = channels::on_channel(s, memory, c, Kind::Closed);
     let b = buffers::lowest_buffer(s, c);
@@ -35,16 +36,16 @@ fn may_begin(s: State, memory: usize, c: usize) -> Verdict
 // The running task begins to write: it takes the lowest buffer that is not latest, not read and not being written, whose message bytes
 // become 0.
 pub fn begin_write(s: State, channel: ChannelNo, memory: &mut [u8]) -> Reply
-    ensures { λ r. ⌜ Lent (Calls.begin-write (channel .0)) s (slice (memory .entry)) r (now (memory .exit)) ⌝ }
+    ensures { λ r. ⌜ Lent (on-channel (Calls.begin-write (channel .0))) s (slice (memory .entry)) r (now (memory .exit)) ⌝ }
 {
     let c = channel.0;
     let verdict = may_begin(s, memory.len(), c);
     match verdict {
         Verdict::Refuses(_) => refusals::refuse(s, verdict),
-        Verdict::Passes => {
+        Verdict::Accepts => {
             let b = buffers::lowest_buffer(s, c);
             let channel = channels::channel_of(s, c);
-            let place = memory::place(c, b as usize);
+            let place = memory::buffer_start(c, b as usize);
             memory::clear(memory, place, channel.size as usize);
             let next = buffers::with_own(s, c, Session::Write(b));
             refusals::done(next, 0)
@@ -55,7 +56,7 @@ pub fn begin_write(s: State, channel: ChannelNo, memory: &mut [u8]) -> Reply
 // ---- piece
 
 // Whether n bytes at that offset pass a message of that size, whatever the numbers.
-fn passes(size: usize, offset: usize, n: usize) -> bool
+fn past_message(size: usize, offset: usize, n: usize) -> bool
     ensures { λ r. ⌜ r ≡ ltb size (offset + n) ⌝ }
 {
     if offset > size {
@@ -65,26 +66,26 @@ fn passes(size: usize, offset: usize, n: usize) -> bool
 }
 
 fn may_write(s: State, memory: usize, c: usize, offset: usize, n: usize) -> Verdict
-    ensures { λ r. ⌜ ((bytes : List ℕ) → length bytes ≡ n → LentRefusal (Calls.piece c offset bytes) s memory r) ⌝ }
+    ensures { λ r. ⌜ ((bytes : List ℕ) → length bytes ≡ n → LentRefusal (on-channel (Calls.piece c offset bytes)) s memory r) ⌝ }
 {
     let writing = channels::on_channel(s, memory, c, Kind::Write);
     let channel = channels::channel_of(s, c);
     refusals::row(
         writing,
         State::OUTSIDE_SIZES,
-        passes(channel.size as usize, offset, n),
+        past_message(channel.size as usize, offset, n),
     )
 }
 
 // Write these bytes at an offset of the message.
 pub fn piece(s: State, channel: ChannelNo, offset: usize, bytes: &[u8], memory: &mut [u8]) -> Reply
-    ensures { λ r. ⌜ Lent (Calls.piece (channel .0) offset (now (bytes .entry))) s (slice (memory .entry)) r (now (memory .exit)) ⌝ }
+    ensures { λ r. ⌜ Lent (on-channel (Calls.piece (channel .0) offset (now (bytes .entry)))) s (slice (memory .entry)) r (now (memory .exit)) ⌝ }
 {
     let c = channel.0;
     let verdict = may_write(s, memory.len(), c, offset, bytes.len());
     match verdict {
         Verdict::Refuses(_) => refusals::refuse(s, verdict),
-        Verdict::Passes => {
+        Verdict::Accepts => {
             let place = channels::held(s, c);
             memory::write(memory, place + offset, bytes);
             refusals::done(s, 0)
@@ -111,13 +112,13 @@ fn published(s: State, c: usize) -> State
 
 // The buffer that the running task was writing is the latest, and its session is closed.
 pub fn put(s: State, channel: ChannelNo, memory: &[u8]) -> Reply
-    ensures { λ r. ⌜ Lent (Calls.put (channel .0)) s (slice (memory .entry)) r (now (memory .entry)) ⌝ }
+    ensures { λ r. ⌜ Lent (on-channel (Calls.put (channel .0))) s (slice (memory .entry)) r (now (memory .entry)) ⌝ }
 {
     let c = channel.0;
     let verdict = channels::on_channel(s, memory.len(), c, Kind::Write);
     match verdict {
         Verdict::Refuses(_) => refusals::refuse(s, verdict),
-        Verdict::Passes => {
+        Verdict::Accepts => {
             let next = published(s, c);
             refusals::done(next, 0)
         }

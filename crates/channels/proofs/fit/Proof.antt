@@ -3,8 +3,7 @@ use mathlib.Core.Path.{_≡_, refl, sym, _∙_}
 use mathlib.Core.Bool.{true, false}
 use borrow.Author.Needs.{needs}
 use borrow.Author.Tests.{not-true, not-false}
-use Rattle.kernel.specs.Sizes.{longest-message}
-use Rattle.kernel.specs.Refusals.{within}
+use Rattle.kernel.specs.Sizes.{longest-message, within}
 use Rattle.channels.proofs.fit.Statement.{statement}
 use Rattle.channels.proofs.fit.Tie as tie
 

@@ -9,7 +9,7 @@ use Rattle.kernel.specs.Sizes.{channel-count}
 use Rattle.kernel.specs.Kernel.{channel}
 use Rattle.kernel.specs.Channels.{lowest-channel, open-channel}
 use Rattle.kernel.specs.Calls as Calls
-use Rattle.kernel.specs.Calls.{effect}
+use Rattle.kernel.specs.Calls.{effect, on-channel}
 use Rattle.kernel.specs.Seen.{seen}
 use Rattle.kernel.proofs.Lowest.{found}
 use Rattle.kernel.proofs.Shows.{kept}
@@ -18,7 +18,7 @@ use Rattle.refusals.proofs.Answers.{legal, allows, refused, took-effect}
 use Rattle.channels.proofs.open_channel.Statement.{statement}
 use Rattle.channels.proofs.open_channel.Tie as tie
 
-may : (c : tie.After-enum-told2) → Legal (Calls.open-channel (c .before .before .before .args .size) (c .before .before .before .args .buffers)) (c .before .before .before .args .s)
+may : (c : tie.After-enum-told2) → Legal (on-channel (Calls.open-channel (c .before .before .before .args .size) (c .before .before .before .args .buffers))) (c .before .before .before .args .s)
 may c = legal (c .before .before .may-open .ensures) (c .enum-told2 .given .1)
 
 size : tie.Need-cast-t9

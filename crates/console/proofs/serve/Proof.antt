@@ -1,4 +1,4 @@
--- The script's loop: what goes from turn to turn is the exchanges so far, and how long the buffers are. The measure is the number of turns that are left. Assumes nothing.
+-- The script's loop: what goes from exchange to exchange is the exchanges so far, and how long the buffers are. The measure is the number of spare that are left. Assumes nothing.
 use mathlib.Core.Path.{_≡_, ap, sym, _∙_}
 use mathlib.Core.Logic.{inl, inr, ⊎-elim}
 use native.Mathlib.Omega.{arith}
@@ -10,11 +10,11 @@ use Rattle.console.proofs.serve.Statement.{statement}
 use Rattle.console.proofs.serve.Tie as tie
 
 abbrev Inv-loop : tie.InvT-loop
-Inv-loop block₀ row n held₀ paper₀ at₀ turns₀ block held paper at turns =
-    (length held ≡ 64) × (length block ≡ length block₀) × (length paper ≡ 65536) × SoFar (at₀ .further) at held turns
+Inv-loop block₀ out n line₀ paper₀ at₀ spare₀ block line paper at spare =
+    (length line ≡ 64) × (length block ≡ length block₀) × (length paper ≡ 65536) × SoFar (at₀ .further) at line spare
 
 abbrev μ-loop : tie.MeasureT-loop
-μ-loop block₀ row n held₀ paper₀ at₀ turns₀ block held paper at turns = turns
+μ-loop block₀ out n line₀ paper₀ at₀ spare₀ block line paper at spare = spare
 
 starts : tie.Need-loop-holds Inv-loop μ-loop
 starts c =
@@ -38,8 +38,8 @@ ends c =
       answers = f .answers;
       text = f .text;
       exchanges = f .exchanges;
-      over = ⊎-elim (λ w. inr (omega (arith, f .left, ltb-false 0 (end .before .loop .turns) (w .1 .left)))) (λ w. inl (w .left)) (end .loop-test .came);
-      row = rw (last .ensures .0 .1 ∙ sym (c .print2 .ensures)) at (last .ensures .1);
+      over = ⊎-elim (λ w. inr (omega (arith, f .left, ltb-false 0 (end .before .loop .spare) (w .1 .left)))) (λ w. inl (w .left)) (end .loop-test .came);
+      last = rw (last .ensures .0 .1 ∙ sym (c .print2 .ensures)) at (last .ensures .1);
     }
 
 pub serve-spec : {M : Type 1} → statement M

@@ -5,21 +5,22 @@ use native.Mathlib.Omega.{arith}
 use mir.Syntax.{w32}
 use borrow.Author.Needs.{needs, fits-under}
 use Rattle.kernel.specs.Sizes.{task-count}
-use Rattle.kernel.specs.Calls.{create-hard, effect}
+use Rattle.kernel.specs.Calls.{create-hard, verb, effect}
+use Rattle.kernel.proofs.Sizes.{sizes}
 use Rattle.refusals.specs.Tested.{Legal}
 use Rattle.refusals.proofs.Answers.{legal, allows, refused, took-effect}
 use Rattle.creation.proofs.Creatable.{hard-creatable}
 use Rattle.creation.proofs.create_hard.Statement.{statement}
 use Rattle.creation.proofs.create_hard.Tie as tie
 
-may : (c : tie.After-enum-told2) → Legal (create-hard (c .before .before .before .args .period) (c .before .before .before .args .cost)) (c .before .before .before .args .s)
+may : (c : tie.After-enum-told2) → Legal (verb (create-hard (c .before .before .before .args .period) (c .before .before .before .args .cost))) (c .before .before .before .args .s)
 may c = legal (c .before .before .may-create-hard .ensures) (c .enum-told2 .given .1)
 
 period : tie.Need-cast-t9
-period c = let l = allows (may c) .allowed .0 in fits-under w32 _ 4294967296 (omega arith) tt
+period c = let l = sizes (allows (may c) .allowed .0) in fits-under w32 _ 4294967296 (omega arith) tt
 
 cost : tie.Need-cast-t10
-cost c = let l = allows (may c) .allowed .0 in fits-under w32 _ 4294967296 (omega arith) tt
+cost c = let l = sizes (allows (may c) .allowed .0) in fits-under w32 _ 4294967296 (omega arith) tt
 
 number : tie.Need-done-with-requires
 number c κs =

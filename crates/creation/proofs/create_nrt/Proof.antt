@@ -5,14 +5,14 @@ use native.Mathlib.Omega.{arith}
 use mir.Syntax.{w8}
 use borrow.Author.Needs.{needs, fits-under}
 use Rattle.kernel.specs.Sizes.{task-count}
-use Rattle.kernel.specs.Calls.{create-nrt, effect}
+use Rattle.kernel.specs.Calls.{create-nrt, verb, effect}
 use Rattle.refusals.specs.Tested.{Legal}
 use Rattle.refusals.proofs.Answers.{legal, allows, refused, took-effect}
 use Rattle.creation.proofs.Creatable.{nrt-creatable}
 use Rattle.creation.proofs.create_nrt.Statement.{statement}
 use Rattle.creation.proofs.create_nrt.Tie as tie
 
-may : (c : tie.After-enum-told2) → Legal (create-nrt (c .before .before .before .args .priority)) (c .before .before .before .args .s)
+may : (c : tie.After-enum-told2) → Legal (verb (create-nrt (c .before .before .before .args .priority))) (c .before .before .before .args .s)
 may c = legal (c .before .before .may-create-nrt .ensures) (c .enum-told2 .given .1)
 
 priority : tie.Need-cast-t8

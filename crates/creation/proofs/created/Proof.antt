@@ -5,13 +5,13 @@ use native.Mathlib.Omega.{arith}
 use mir.Syntax.{w32}
 use borrow.Author.Needs.{needs, fits-under}
 use Rattle.kernel.specs.Sizes.{whole}
-use Rattle.kernel.specs.Kernel.{Kernel, share-of, with-share}
+use Rattle.kernel.specs.Kernel.{Kernel, share-of, with-total}
 use Rattle.kernel.specs.Tasks.{create}
 use Rattle.kernel.proofs.Shows.{beside}
 use Rattle.creation.proofs.created.Statement.{statement}
 use Rattle.creation.proofs.created.Tie as tie
 
-total : (c : tie.After-share-of) → c .before .before .before .args .s .share + c .share-of .result ≤ whole
+total : (c : tie.After-share-of) → c .before .before .before .args .s .total + c .share-of .result ≤ whole
 total c = rw (c .share-of .ensures) (c .before .before .before .pre .share)
 
 joins : tie.Need-add-share
@@ -24,10 +24,10 @@ shows : tie.Need-returns
 unfolding create
 shows c =
     let h = c .before .before in
-    let n = h .before .before .before .args .s .share + h .share-of .result in
+    let n = h .before .before .before .args .s .total + h .share-of .result in
     record {
       kept = beside (c .move-task .ensures .kept);
-      is = ap (λ (k : Kernel). with-share k n) (c .move-task .ensures .is) ∙ rw (h .before .before .lowest-free .ensures, h .before .first-deadline .ensures, h .share-of .ensures) refl;
+      is = ap (λ (k : Kernel). with-total k n) (c .move-task .ensures .is) ∙ rw (h .before .before .lowest-free .ensures, h .before .first-deadline .ensures, h .share-of .ensures) refl;
     }
 
 pub created-spec : {M : Type 1} → statement M

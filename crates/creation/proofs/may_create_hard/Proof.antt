@@ -6,7 +6,6 @@ use lib.Dec.{eqb}
 use borrow.Author.Needs.{needs}
 use borrow.Author.Tests.{not-false}
 use Rattle.kernel.specs.Sizes.{task-count}
-use Rattle.kernel.proofs.Allowed.{sizes-fit}
 use Rattle.refusals.proofs.Says.{none-of}
 use Rattle.creation.proofs.may_create_hard.Statement.{statement}
 use Rattle.creation.proofs.may_create_hard.Tie as tie
@@ -17,13 +16,13 @@ table c =
     let four = share .before in
     let free = four .before in
     let seven = free .before in
-    let fit = seven .before in
-    let every = fit .before in
+    let fits = seven .before in
+    let every = fits .before in
     let k = every .before in
     let s = k .args .s in
-    let first = seven .row .ensures _ s _ (every .every-call .ensures) (λ p. ap not (fit .fit .ensures)) in
+    let first = seven .row .ensures _ s _ (every .every-call .ensures) (λ p. ap not (fits .fitting .ensures)) in
     let second = four .row2 .ensures _ s _ first (λ p. ap (λ (n : ℕ). eqb n task-count) (free .lowest-free .ensures)) in
-    λ m. record { tested = c .row3 .ensures _ s _ second (λ p. share .too-much .ensures (sizes-fit (k .args .period) (k .args .cost) (not-false _ (none-of p .1 .1 .1 .0)))) }
+    λ m. record { tested = c .row3 .ensures _ s _ second (λ p. share .too-much .ensures (not-false _ (none-of p .1 .1 .1 .0))) }
 
 pub may-create-hard-spec : {M : Type 1} → statement M
 may-create-hard-spec =

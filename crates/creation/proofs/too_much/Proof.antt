@@ -9,23 +9,22 @@ use borrow.Author.Tests.{not-true, not-false}
 use Rattle.kernel.specs.declared.Class.the-variants.{Hard}
 use Rattle.kernel.specs.Sizes.{whole}
 use Rattle.kernel.specs.Good.{Fits}
-use Rattle.kernel.proofs.Allowed.{sizes-fit}
+use Rattle.kernel.proofs.Sizes.{sizes}
 use Rattle.sound_clauses.proofs.Sum.{share-most}
-use Rattle.creation.proofs.Sizes.{passes}
 use Rattle.creation.proofs.too_much.Statement.{statement}
 use Rattle.creation.proofs.too_much.Tie as tie
 
 outside : tie.Need-returns
-outside c = λ f. let k = c .before .before in absurd (false≢true (sym (not-true _ (c .if1 .taken)) ∙ c .before .fit .ensures ∙ passes (k .args .period) (k .args .cost) f))
+outside c = λ f. absurd (false≢true (sym (not-true _ (c .if1 .taken)) ∙ c .before .fitting .ensures ∙ f))
 
 fits : (c : tie.Else1) → Fits (Hard (c .before .before .args .period) (c .before .before .args .cost))
-fits c = let k = c .before .before in sizes-fit (k .args .period) (k .args .cost) (sym (c .before .fit .ensures) ∙ not-false _ (c .if1 .left))
+fits c = sym (c .before .fitting .ensures) ∙ not-false _ (c .if1 .left)
 
 period : tie.Need-cast-hard-share
-period c = let f = fits c in fits-under w32 _ 4294967296 (omega arith) tt
+period c = let f = sizes (fits c) in fits-under w32 _ 4294967296 (omega arith) tt
 
 cost : tie.Need-cast-hard-share-2
-cost c = let f = fits c in fits-under w32 _ 4294967296 (omega arith) tt
+cost c = let f = sizes (fits c) in fits-under w32 _ 4294967296 (omega arith) tt
 
 sum : tie.Need-add-result
 sum c =
@@ -45,7 +44,7 @@ too-much-spec =
     outside
     period
     cost
-    (λ c κs. fits c .0)
+    (λ c κs. sizes (fits c) .some-period)
     (λ c. search needs)
     sum
     (λ c. search needs)

@@ -1,12 +1,13 @@
 -- The verbs that stand alone: one of them, or none. Assumes nothing.
 use borrow.Author.Needs.{needs}
-use Rattle.language.specs.Meaning.{same, asked}
+use Rattle.kernel.specs.Channels.{same-bytes}
+use Rattle.language.specs.Meaning.{sought}
 use Rattle.language.proofs.Words.{differ}
 use Rattle.language.proofs.alone.Statement.{statement}
 use Rattle.language.proofs.alone.Tie as tie
 
 none : tie.Need-returns-5
-unfolding asked
+unfolding sought
 none c =
     let cycle = c .before .before .before in
     let sleep = cycle .before .before .before in
@@ -19,20 +20,12 @@ none c =
     )
 
 pub alone-spec : {M : Type 1} → statement M
-unfolding asked same
+unfolding sought same-bytes
 alone-spec =
     tie.close
     (tie.spec
-    (λ c. search needs)
-    (λ c κs. search needs)
-    (λ c. rw (c .before .same .ensures .0 (c .if1 .taken)))
-    (λ c. search needs)
-    (λ c κs. search needs)
-    (λ c. rw (c .before .same2 .ensures .0 (c .if2 .taken)))
-    (λ c. search needs)
-    (λ c κs. search needs)
-    (λ c. rw (c .before .same3 .ensures .0 (c .if3 .taken)))
-    (λ c. search needs)
-    (λ c κs. search needs)
-    (λ c. rw (c .before .same4 .ensures .0 (c .if4 .taken)))
+    (λ c. search needs) (λ c κs. search needs) (λ c. rw (c .before .same .ensures .0 (c .if1 .taken)))
+    (λ c. search needs) (λ c κs. search needs) (λ c. rw (c .before .same2 .ensures .0 (c .if2 .taken)))
+    (λ c. search needs) (λ c κs. search needs) (λ c. rw (c .before .same3 .ensures .0 (c .if3 .taken)))
+    (λ c. search needs) (λ c κs. search needs) (λ c. rw (c .before .same4 .ensures .0 (c .if4 .taken)))
     none)

@@ -1,13 +1,13 @@
 -- The verb hard, or another. Assumes nothing.
 use mathlib.Core.Path.{_∙_}
 use borrow.Author.Needs.{needs}
-use Rattle.language.specs.Meaning.{same}
+use Rattle.kernel.specs.Channels.{same-bytes}
 use Rattle.language.proofs.Words.{differ}
 use Rattle.language.proofs.followed.Statement.{statement}
 use Rattle.language.proofs.followed.Tie as tie
 
 hard : tie.Need-returns
-unfolding same
+unfolding same-bytes
 hard c = let k = c .before in c .hard .ensures ∙ rw (k .before .same .ensures .0 (k .if1 .taken))
 
 number : tie.Need-returns-2

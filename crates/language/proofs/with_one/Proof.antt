@@ -1,12 +1,13 @@
 -- The verbs that a number follows: one of them, or none. Assumes nothing.
 use borrow.Author.Needs.{needs}
-use Rattle.language.specs.Meaning.{same, asked}
+use Rattle.kernel.specs.Channels.{same-bytes}
+use Rattle.language.specs.Meaning.{sought}
 use Rattle.language.proofs.Words.{differ}
 use Rattle.language.proofs.with_one.Statement.{statement}
 use Rattle.language.proofs.with_one.Tie as tie
 
 none : tie.Need-returns-8
-unfolding asked
+unfolding sought
 none c =
     let wait = c .before .before .before in
     let delsem = wait .before .before .before in
@@ -25,29 +26,15 @@ none c =
     )
 
 pub with-one-spec : {M : Type 1} → statement M
-unfolding asked same
+unfolding sought same-bytes
 with-one-spec =
     tie.close
     (tie.spec
-    (λ c. search needs)
-    (λ c κs. search needs)
-    (λ c. rw (c .before .same .ensures .0 (c .if1 .taken)))
-    (λ c. search needs)
-    (λ c κs. search needs)
-    (λ c. rw (c .before .same2 .ensures .0 (c .if2 .taken)))
-    (λ c. search needs)
-    (λ c κs. search needs)
-    (λ c. rw (c .before .same3 .ensures .0 (c .if3 .taken)))
-    (λ c. search needs)
-    (λ c κs. search needs)
-    (λ c. rw (c .before .same4 .ensures .0 (c .if4 .taken)))
-    (λ c. search needs)
-    (λ c κs. search needs)
-    (λ c. rw (c .before .same5 .ensures .0 (c .if5 .taken)))
-    (λ c. search needs)
-    (λ c κs. search needs)
-    (λ c. rw (c .before .same6 .ensures .0 (c .if6 .taken)))
-    (λ c. search needs)
-    (λ c κs. search needs)
-    (λ c. rw (c .before .same7 .ensures .0 (c .if7 .taken)))
+    (λ c. search needs) (λ c κs. search needs) (λ c. rw (c .before .same .ensures .0 (c .if1 .taken)))
+    (λ c. search needs) (λ c κs. search needs) (λ c. rw (c .before .same2 .ensures .0 (c .if2 .taken)))
+    (λ c. search needs) (λ c κs. search needs) (λ c. rw (c .before .same3 .ensures .0 (c .if3 .taken)))
+    (λ c. search needs) (λ c κs. search needs) (λ c. rw (c .before .same4 .ensures .0 (c .if4 .taken)))
+    (λ c. search needs) (λ c κs. search needs) (λ c. rw (c .before .same5 .ensures .0 (c .if5 .taken)))
+    (λ c. search needs) (λ c κs. search needs) (λ c. rw (c .before .same6 .ensures .0 (c .if6 .taken)))
+    (λ c. search needs) (λ c κs. search needs) (λ c. rw (c .before .same7 .ensures .0 (c .if7 .taken)))
     none)

@@ -12,8 +12,8 @@ some c =
     let f = c .before .before in
     let x = f .first .result in
     record {
-      kept = beside (c .turn .ensures .kept);
-      is = ap (λ (k : Kernel). with-running k x) (c .turn .ensures .is) ∙ sym (dispatch-first _ (f .first .ensures .some (c .before .if1 .taken)));
+      kept = beside (c .restate .ensures .kept);
+      is = ap (λ (k : Kernel). with-running k x) (c .restate .ensures .is) ∙ sym (dispatch-first _ (f .first .ensures .some (c .before .if1 .taken)));
     }
 
 none : tie.Need-returns-2

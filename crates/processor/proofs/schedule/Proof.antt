@@ -19,7 +19,7 @@ earlier c =
     let is =
     schedule-earlier (seen s) (f .first .ensures .some (w .before .before .before .before .before .if1 .taken)) (rw (task-seen s x, task-seen s (s .running .0)) (w .if2 .taken))
     ∙ preempts (seen s) in
-    subst (Shows (c .dispatch .result)) (sym is) (then dispatch (c .before .turn .ensures) (c .dispatch .ensures))
+    subst (Shows (c .dispatch .result)) (sym is) (then dispatch (c .before .restate .ensures) (c .dispatch .ensures))
 
 later : tie.Need-returns-2
 later c =
@@ -43,7 +43,7 @@ schedule-spec =
     (λ c. search needs)
     (λ c. search needs)
     (λ c κs. search needs)
-    (λ c κs. c .turn .ensures .kept)
+    (λ c κs. c .restate .ensures .kept)
     earlier
     later
     none)

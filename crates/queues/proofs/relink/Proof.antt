@@ -26,9 +26,9 @@ module _ (c : tie.Start) where
   bits-w = toZ-ofZ (c .fits .w)
 
 -- Both neighbours are turned.
-turned : (c : tie.After-set-next) → c .set-next .result ≡ (let a = c .before .before .before .before .args in
+rejoined : (c : tie.After-set-next) → c .set-next .result ≡ (let a = c .before .before .before .before .args in
     with-next (with-previous (a .s) (target task-count (a .after)) (a .w)) (target task-count (a .before)) (a .v))
-turned c =
+rejoined c =
     let k = c .before .before .before .before in
     rw (c .before .set-previous .ensures, c .before .before .target2 .ensures, c .before .before .before .target .ensures, bits-before k, bits-after k, bits-v k, bits-w k) at (c .set-next .ensures)
 
@@ -37,14 +37,14 @@ unfolding relinked
 at-a-task c =
     let k = c .before .before .before .before .before in
     let t = rw (c .before .before .before .before .target .ensures, bits-before k) at (c .if1 .taken) in
-    rw (lt-ltb _ _ t) (turned (c .before))
+    rw (lt-ltb _ _ t) (rejoined (c .before))
 
 at-the-head : tie.Need-returns-2
 unfolding relinked
 at-the-head c =
     let k = c .before .before .before .before .before .before in
     let t = rw (c .before .before .before .before .before .target .ensures, bits-before k) at (c .before .if1 .left) in
-    rw (le-ltb _ _ t, bits-v k, turned (c .before .before))
+    rw (le-ltb _ _ t, bits-v k, rejoined (c .before .before))
 
 pub relink-spec : {M : Type 1} → statement M
 relink-spec = tie.close (tie.spec (λ c κs. search needs) (λ c κs. search needs) (λ c κs. search needs) (λ c κs. search needs) at-a-task (λ c. search needs) at-the-head)

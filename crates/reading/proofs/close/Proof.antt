@@ -3,7 +3,7 @@ use mathlib.Core.Path.{refl}
 use borrow.Author.Needs.{needs}
 use Rattle.kernel.specs.Channels as Channels
 use Rattle.kernel.specs.Calls as Calls
-use Rattle.kernel.specs.Calls.{effect}
+use Rattle.kernel.specs.Calls.{effect, on-channel}
 use Rattle.refusals.specs.Tested.{Judged}
 use Rattle.refusals.proofs.Says.{of-length}
 use Rattle.refusals.proofs.Answers.{lets-pass, lent-refused, lent-took-effect}
@@ -15,7 +15,7 @@ use Rattle.reading.proofs.close.Tie as tie
 abbrev k : tie.After-on-channel → tie.Start
 k c = c .before .before
 
-judged : (c : tie.After-on-channel) → Judged (Calls.close (k c .args .channel .0)) (k c .args .s) (k c .args .memory .now) (c .on-channel .result)
+judged : (c : tie.After-on-channel) → Judged (on-channel (Calls.close (k c .args .channel .0))) (k c .args .s) (k c .args .memory .now) (c .on-channel .result)
 judged c = record { tested = of-length (c .on-channel .ensures) (k c .args .memory .now) refl }
 
 ends : tie.Need-with-own-requires

@@ -7,7 +7,7 @@ use mir.Syntax.{w64}
 use mir.Val.{toZ, ofZ}
 use borrow.Author.Needs.{needs}
 use Rattle.kernel.specs.Calls as Calls
-use Rattle.kernel.specs.Calls.{effect, standby}
+use Rattle.kernel.specs.Calls.{effect, standby, on-channel}
 use Rattle.kernel.specs.Slices.{slice, part-of}
 use Rattle.refusals.specs.Tested.{Judged}
 use Rattle.refusals.proofs.Says.{of-length}
@@ -19,7 +19,7 @@ use Rattle.reading.proofs.screen.Tie as tie
 abbrev k : tie.After-on-channel → tie.Start
 k c = c .before .before .before
 
-judged : (c : tie.After-on-channel) → Judged (Calls.screen (k c .args .channel .0) (k c .args .standby .now)) (k c .args .s) (k c .args .memory .now) (c .on-channel .result)
+judged : (c : tie.After-on-channel) → Judged (on-channel (Calls.screen (k c .args .channel .0) (k c .args .standby .now))) (k c .args .s) (k c .args .memory .now) (c .on-channel .result)
 judged c = record { tested = of-length (c .on-channel .ensures) (k c .args .memory .now) refl }
 
 can : tie.Need-shown-requires

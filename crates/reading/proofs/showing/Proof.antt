@@ -5,7 +5,7 @@ use mir.Syntax.{w64}
 use mir.Val.{toZ, ofZ}
 use borrow.Author.Needs.{needs}
 use Rattle.kernel.specs.Calls as Calls
-use Rattle.kernel.specs.Calls.{effect, part}
+use Rattle.kernel.specs.Calls.{effect, part, on-channel}
 use Rattle.kernel.specs.Slices.{slice, part-of}
 use Rattle.refusals.specs.Tested.{Judged}
 use Rattle.refusals.proofs.Says.{of-length}
@@ -17,7 +17,7 @@ use Rattle.reading.proofs.showing.Tie as tie
 abbrev k : tie.After-on-channel → tie.Start
 k c = c .before .before
 
-judged : (c : tie.After-on-channel) → Judged (Calls.showing (k c .args .channel .0)) (k c .args .s) (k c .args .memory .now) (c .on-channel .result)
+judged : (c : tie.After-on-channel) → Judged (on-channel (Calls.showing (k c .args .channel .0))) (k c .args .s) (k c .args .memory .now) (c .on-channel .result)
 judged c = record { tested = of-length (c .on-channel .ensures) (k c .args .memory .now) refl }
 
 can : tie.Need-shown-requires

@@ -10,13 +10,13 @@ use Rattle.script.proofs.block.Statement.{statement}
 use Rattle.script.proofs.block.Tie as tie
 
 abbrev Inv-loop : tie.InvT-loop
-Inv-loop held₀ begun bytes out₀ row₀ t₀ n₀ printed₀ i₀ held out row t n printed i = SoFar bytes t₀ held₀ begun (length out₀) held out t n printed i
+Inv-loop line₀ begun bytes paper₀ out₀ t₀ n₀ printed₀ i₀ line paper out t n printed i = SoFar bytes t₀ line₀ begun (length paper₀) line paper t n printed i
 
 abbrev μ-loop : tie.MeasureT-loop
-μ-loop held₀ begun bytes out₀ row₀ t₀ n₀ printed₀ i₀ held out row t n printed i = length bytes - i
+μ-loop line₀ begun bytes paper₀ out₀ t₀ n₀ printed₀ i₀ line paper out t n printed i = length bytes - i
 
 starts : tie.Need-loop-holds Inv-loop μ-loop
-starts c = let k = c .before .before .before in begins (k .args .bytes .now) (k .args .s) (k .args .held .now) (k .args .begun) (k .args .out .now) (k .pre .0)
+starts c = let k = c .before .before .before in begins (k .args .bytes .now) (k .args .s) (k .args .line .now) (k .args .begun) (k .args .paper .now) (k .pre .0)
 
 counted : tie.Need-slice-aggregate-put Inv-loop μ-loop
 counted c = let e = c .before .before .before .ended in front (e .result .printed) (e .last .1 .1 .1 .0) (e .ensures .fits .within)
@@ -26,7 +26,7 @@ has-room c κs =
     let e = c .before .before .before .ended in
     let l = c .before .before .before .before .before .before .before .before in
     let f = l .before .loop .inv in
-    omega (arith, f .room, f .paper, e .ensures .fits .short, l .loop-test .taken, front (e .result .printed) (e .last .1 .1 .1 .0) (e .ensures .fits .within))
+    omega (arith, f .room, f .paper-size, e .ensures .fits .short, l .loop-test .taken, front (e .result .printed) (e .last .1 .1 .1 .0) (e .ensures .fits .within))
 
 goes-on : tie.Need-loop-again Inv-loop μ-loop
 goes-on c =
@@ -41,7 +41,7 @@ goes-on c =
 ends : tie.Need-returns Inv-loop μ-loop
 ends c =
     let f = c .before .loop .inv in
-    (counts (c .before .loop .printed) (c .before .loop .out) (omega (arith, f .room, f .paper, f .inside)), all-read f (c .loop-test .left))
+    (counts (c .before .loop .printed) (c .before .loop .paper) (omega (arith, f .room, f .paper-size, f .inside)), all-read f (c .loop-test .left))
 
 pub block-spec : {M : Type 1} → statement M
 block-spec =
@@ -51,11 +51,11 @@ block-spec =
     μ-loop
     starts
     (λ c. search needs)
-    (λ c κs. c .before .before .before .before .before .loop .inv .line)
+    (λ c κs. c .before .before .before .before .before .loop .inv .line-size)
     (λ c. c .before .before .ended .ensures .fits .within)
     counted
     has-room
-    (λ c κs. c .before .before .before .before .loop .inv .line)
+    (λ c κs. c .before .before .before .before .loop .inv .line-size)
     (λ c. search needs)
     (λ c. search needs)
     goes-on

@@ -8,7 +8,7 @@ use Rattle.script.proofs.last.Statement.{statement}
 use Rattle.script.proofs.last.Tie as tie
 
 nothing : tie.Need-returns
-nothing c = let k = c .before .before in ((omega arith, refl), rw (c .if1 .taken) (nothing-begun (k .args .s) (k .args .held .now)))
+nothing c = let k = c .before .before in ((omega arith, refl), rw (c .if1 .taken) (nothing-begun (k .args .s) (k .args .line .now)))
 
 line : tie.Need-returns-2
 line c =

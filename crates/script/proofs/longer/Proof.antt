@@ -1,6 +1,6 @@
--- The byte goes behind those that the buffer holds. Assumes nothing.
+-- The byte goes behind those that are in the buffer. Assumes nothing.
 use borrow.Author.Needs.{needs}
-use Rattle.script.proofs.Holding.{one-more, too-long}
+use Rattle.script.proofs.Begun.{one-more, too-long}
 use Rattle.script.proofs.longer.Statement.{statement}
 use Rattle.script.proofs.longer.Tie as tie
 
@@ -12,5 +12,5 @@ longer-spec =
     (λ c. search needs)
     (λ c. search needs)
     (λ c. search needs)
-    (λ c. let k = c .before in one-more (k .args .held .now) (k .args .n) (k .args .b) (c .if1 .taken) (k .pre))
-    (λ c. let k = c .before in too-long (k .args .held .now) (k .args .n) (k .args .b) (c .if1 .left) (k .pre)))
+    (λ c. let k = c .before in one-more (k .args .line .now) (k .args .n) (k .args .b) (c .if1 .taken) (k .pre))
+    (λ c. let k = c .before in too-long (k .args .line .now) (k .args .n) (k .args .b) (c .if1 .left) (k .pre)))

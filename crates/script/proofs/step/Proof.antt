@@ -2,9 +2,11 @@
 use mathlib.Core.Path.{sym, subst, _∙_}
 use borrow.Author.Needs.{needs}
 use Rattle.language.specs.declared.Line.{Line}
-use Rattle.language.specs.Meaning.{call, call-of}
+use Rattle.kernel.specs.Calls.{verb}
+use Rattle.verbs.specs.Verbs.{verb-of}
+use Rattle.language.specs.Meaning.{call-of}
 use Rattle.script.specs.Step.{Shown}
-use Rattle.script.proofs.Rows.{answered}
+use Rattle.script.proofs.Printed.{answered}
 use Rattle.script.proofs.step.Statement.{statement}
 use Rattle.script.proofs.step.Tie as tie
 
@@ -20,9 +22,9 @@ says c =
     let m = c .before .before .before .before in
     let e = m .before .before in
     let r = e .before .before in
-    let h = c .row .ensures in
-    subst (λ (l : Line). Shown (r .before .before .args .s) (record { state = m .make .result .state; printed = c .row .result }) (c .row .last .0) (call-of l))
-    (sym (e .asked .given .1) ∙ r .read .ensures) (answered (call (e .asked .given .0 .0)) (m .make .ensures) (h .0) (h .1))
+    let h = c .printed .ensures in
+    subst (λ (l : Line). Shown (r .before .before .args .s) (record { state = m .make .result .state; printed = c .printed .result }) (c .printed .last .0) (call-of l))
+    (sym (e .asked .given .1) ∙ r .read .ensures) (answered (verb (verb-of (e .asked .given .0 .0))) (m .make .ensures) (h .0) (h .1))
 
 pub step-spec : {M : Type 1} → statement M
 step-spec =

@@ -1,4 +1,4 @@
--- The first line is put at the start of the row. Assumes nothing.
+-- The first line is put at the start of the buffer. Assumes nothing.
 use native.Mathlib.Omega.{arith}
 use borrow.Author.Needs.{needs}
 use Rattle.io.proofs.Counting.{counts}

@@ -3,7 +3,7 @@ use mathlib.Core.Path.{refl}
 use native.Mathlib.Omega.{arith}
 use borrow.Author.Needs.{needs}
 use Rattle.script.specs.Step.{unknown}
-use Rattle.script.proofs.Rows.{shown}
+use Rattle.script.proofs.Printed.{shown}
 use Rattle.script.proofs.unknown.Statement.{statement}
 use Rattle.script.proofs.unknown.Tie as tie
 

@@ -18,14 +18,14 @@ has c κs = let a = allows (c .pre) .allowed in omega arith
 
 runs : tie.Need-schedule-requires
 unfolding move
-runs c κs = (c .turn .ensures .kept, rw (running (c .turn .ensures)) (c .before .before .before .pre .sound .good .runs .running))
+runs c κs = (c .restate .ensures .kept, rw (running (c .restate .ensures)) (c .before .before .before .pre .sound .good .runs .running))
 
 wakes : tie.Need-returns
 wakes c =
     let f = c .before .before .before in
     let k = f .before in
     rw (signal-first (seen (k .args .s)) (k .args .n) (f .first .ensures .some (c .before .before .if1 .taken)))
-    (then schedule (c .before .turn .ensures) (c .schedule .ensures))
+    (then schedule (c .before .restate .ensures) (c .schedule .ensures))
 
 fits : tie.Need-add-store
 fits c = let k = c .before .before .before in let a = allows (k .pre) .allowed in omega arith

@@ -23,7 +23,7 @@ waits : tie.Need-returns-2
 waits c =
     let n = c .before .before .before in
     let k = n .before in
-    rw (wait-waits (seen (k .args .s)) (k .args .n) (omega arith)) (then dispatch (c .before .turn .ensures) (c .dispatch .ensures))
+    rw (wait-waits (seen (k .args .s)) (k .args .n) (omega arith)) (then dispatch (c .before .restate .ensures) (c .dispatch .ensures))
 
 pub waited-spec : {M : Type 1} → statement M
 waited-spec = tie.close (tie.spec (λ c κs. search needs) (λ c. search needs) is-there passes (λ c κs. search needs) (λ c κs. search needs) waits)

@@ -7,11 +7,11 @@ use borrow.Author.Needs.{needs}
 use Rattle.kernel.specs.Sizes.{task-count, whole}
 use Rattle.kernel.specs.Kernel.{task}
 use Rattle.kernel.specs.Seen.{bare, seen}
-use Rattle.kernel.specs.Good.{held-share, shares}
+use Rattle.kernel.specs.Good.{counted-share, shares}
 use Rattle.kernel.proofs.Seen.{held-length, task-seen}
 use Rattle.sound_clauses.specs.Task.{HardFits}
 use Rattle.kernel.proofs.Decided.{no, at-most, means}
-use Rattle.sound_clauses.proofs.Sum.{hard-fits, held-most, SummedTo, one-more, summed}
+use Rattle.sound_clauses.proofs.Sum.{hard-fits, counted-most, SummedTo, one-more, summed}
 use Rattle.sound_clauses.proofs.shares_good.Statement.{statement}
 use Rattle.sound_clauses.proofs.shares_good.Tie as tie
 
@@ -30,15 +30,15 @@ sized : (c : tie.In-loop Inv-loop μ-loop) → HardFits (task (seen (c .before .
 sized c = hard-fits (c .before .before .pre (c .before .loop .x) (c .loop-test .taken))
 
 -- What this turn's task adds: at most the whole.
-adds : (c : tie.After-held-share Inv-loop μ-loop) → c .held-share .result ≡ held-share (task (seen (c .before .before .before .before .args .t1)) (c .before .before .before .loop .x))
-adds c = rw (task-seen (c .before .before .before .before .args .t1) (c .before .before .before .loop .x)) (c .held-share .ensures)
+adds : (c : tie.After-counted-share Inv-loop μ-loop) → c .counted-share .result ≡ counted-share (task (seen (c .before .before .before .before .args .t1)) (c .before .before .before .loop .x))
+adds c = rw (task-seen (c .before .before .before .before .args .t1) (c .before .before .before .loop .x)) (c .counted-share .ensures)
 
-most : (c : tie.After-held-share Inv-loop μ-loop) → c .held-share .result ≤ whole
+most : (c : tie.After-counted-share Inv-loop μ-loop) → c .counted-share .result ≤ whole
 most c =
     let x = c .before .before .before .loop .x in
-    rw (adds c) (held-most (task (seen (c .before .before .before .before .args .t1)) x) (sized (c .before .before)))
+    rw (adds c) (counted-most (task (seen (c .before .before .before .before .args .t1)) x) (sized (c .before .before)))
 
-requires : tie.Need-held-share-requires Inv-loop μ-loop
+requires : tie.Need-counted-share-requires Inv-loop μ-loop
 requires c κs = rw (task-seen (c .before .before .before .args .t1) (c .before .before .loop .x)) at (sized (c .before))
 
 again : tie.Need-loop-again Inv-loop μ-loop
@@ -62,13 +62,13 @@ unequal : tie.Need-returns Inv-loop μ-loop
 unequal c =
     let e = sum (c .before) in
     let unlike = c .if1 .taken in
-    no (λ g. let h = g .share in omega arith)
+    no (λ g. let h = g .total-is in omega arith)
 
 equal : tie.Need-returns-2 Inv-loop μ-loop
 equal c =
     let e = sum (c .before) in
     let like = c .if1 .left in
-    means (at-most _ _) (λ l. record { share = omega arith; share-fits = l }) (λ g. g .share-fits)
+    means (at-most _ _) (λ l. record { total-is = omega arith; total-fits = l }) (λ g. g .total-fits)
 
 pub shares-good-spec : {M : Type 1} → statement M
 shares-good-spec =

@@ -7,13 +7,13 @@ use Rattle.soundness.proofs.queue_good.Tie as tie
 no-chain : tie.Need-returns
 no-chain c = no (λ g. refused (c .before .chained .ensures) (c .if1 .taken) (g .linked))
 
-linked : tie.Need-in-order-requires
+linked : tie.Need-sorted-requires
 linked c κs = (c .before .before .pre, passed (c .before .chained .ensures) (c .if1 .left))
 
 chain : tie.Need-returns-2
 chain c =
     let k = c .before in
-    means (c .in-order .ensures) (λ o. record { linked = passed (k .before .chained .ensures) (k .if1 .left); in-order = o }) (λ g. g .in-order)
+    means (c .sorted .ensures) (λ o. record { linked = passed (k .before .chained .ensures) (k .if1 .left); sorted = o }) (λ g. g .sorted)
 
 pub queue-good-spec : {M : Type 1} → statement M
 queue-good-spec = tie.close (tie.spec (λ c κs. search needs) no-chain linked chain)

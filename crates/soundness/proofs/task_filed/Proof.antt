@@ -4,14 +4,14 @@ use borrow.Author.Needs.{needs}
 use Rattle.kernel.specs.Status.{queue-of}
 use Rattle.kernel.specs.Kernel.{Bare}
 use Rattle.kernel.specs.Seen.{seen}
-use Rattle.kernel.specs.Good.{place}
+use Rattle.kernel.specs.Good.{standing}
 use Rattle.kernel.proofs.Seen.{task-seen}
 use Rattle.soundness.proofs.Parts as Parts
 use Rattle.soundness.proofs.task_filed.Statement.{statement}
 use Rattle.soundness.proofs.task_filed.Tie as tie
 
 -- The queue that is read is the one that is seen.
-placed : (c : tie.After-queue-of) → (let k = c .before .before in place (seen (k .args .t1)) (k .args .x) ≡ c .queue-of .result)
+placed : (c : tie.After-queue-of) → (let k = c .before .before in standing (seen (k .args .t1)) (k .args .x) ≡ c .queue-of .result)
 placed c =
     let k = c .before .before in
     ap (λ (b : Bare). queue-of (b .status)) (task-seen (k .args .t1) (k .args .x)) ∙ sym (c .queue-of .ensures)

@@ -15,13 +15,13 @@ number c = c .pre .sound .good .runs .running
 offset : tie.Need-mul-t
 offset c = scaled-fits _ task-count _ (number c) (search needs)
 
-idles : tie.Need-turn-requires
+idles : tie.Need-restate-requires
 idles c κs = let k = c .before .before in (kept (k .pre .sound), number k)
 
 before : tie.Need-returns
 before c =
     let e = c .before .before in
-    rw (cycle-before (e .before .before .args .t1) (e .if1 .taken)) (then dispatch (c .before .turn .ensures) (c .dispatch .ensures))
+    rw (cycle-before (e .before .before .args .t1) (e .if1 .taken)) (then dispatch (c .before .restate .ensures) (c .dispatch .ensures))
 
 fits : tie.Need-add-move-task
 fits c = let k = c .before .before .before in rw (c .period-of .ensures) (fits-under w32 _ 4294967296 (renewed-fits (k .args .t1) (k .pre .sound)) tt)
@@ -38,4 +38,4 @@ due c =
 pub cycled-spec : {M : Type 1} → statement M
 cycled-spec =
     tie.close
-    (tie.spec offset number idles (λ c κs. c .turn .ensures .kept) before (λ c κs. search needs) fits renews (λ c κs. c .move-task .ensures .kept) due)
+    (tie.spec offset number idles (λ c κs. c .restate .ensures .kept) before (λ c κs. search needs) fits renews (λ c κs. c .move-task .ensures .kept) due)

@@ -14,7 +14,7 @@ negative c =
     let k = c .before .before .before .before .before in
     below (k .args .n) (toZ-ofZ {w = w64} (k .fits .n)) (k .fits .n) (c .before .before .before .if1 .taken)
 
-room : tie.Need-spell-requires
+room : tie.Need-decimal-requires
 room c κs =
     let k = c .before .before .before .before .before .before .before .before in
     omega (arith, rw (negative (c .before .before .before) .text) at (number-short (k .args .n) (k .fits .n)))
@@ -22,12 +22,12 @@ room c κs =
 says : tie.Need-returns
 says c =
     let k = c .before .before .before .before .before .before in
-    rw (negative k .text) (follows (k .put .ensures) (c .before .before .spell .ensures))
+    rw (negative k .text) (follows (k .put .ensures) (c .before .before .decimal .ensures))
 
-positive : (c : tie.After-spell-arg2) → let n = c .before .before .before .args .n in Above n (toZ w64 (ofZ w64 n))
+positive : (c : tie.After-decimal-arg2) → let n = c .before .before .before .args .n in Above n (toZ w64 (ofZ w64 n))
 positive c = let k = c .before .before .before in above (k .args .n) (toZ-ofZ {w = w64} (k .fits .n)) (k .fits .n) (c .before .if1 .left)
 
-room-above : tie.Need-spell-requires-2
+room-above : tie.Need-decimal-requires-2
 room-above c κs = let k = c .before .before .before in omega (arith, rw (positive c .text) at (number-short (k .args .n) (k .fits .n)))
 
 pub number-spec : {M : Type 1} → statement M
@@ -45,4 +45,4 @@ number-spec =
     (λ c. search needs)
     says
     (λ c. search needs)
-    (λ c. rw (positive (c .before .before .before) .text) (c .before .before .spell2 .ensures)))
+    (λ c. rw (positive (c .before .before .before) .text) (c .before .before .decimal2 .ensures)))

@@ -2,7 +2,7 @@
 use mathlib.Core.Path.{_≡_, refl, ap, _∙_}
 use Prim.Native.Nat.{_-_}
 use borrow.Author.Needs.{needs}
-use Rattle.kernel.specs.Kernel.{Kernel, blank, with-share}
+use Rattle.kernel.specs.Kernel.{Kernel, blank, with-total}
 use Rattle.kernel.specs.Moves.{move}
 use Rattle.kernel.specs.Tick.{free}
 use Rattle.kernel.specs.Seen.{seen}
@@ -23,11 +23,11 @@ freed c =
     let k = c .before .before .before in
     let s = k .args .t1 in
     let x = k .args .x in
-    let share = s .share - c .before .share-of .result in
+    let share = s .total - c .before .share-of .result in
     let moved : seen (c .move-task .result) ≡ move (seen s) x blank = c .move-task .ensures .is in
     record {
       kept = beside (c .move-task .ensures .kept);
-      is = ap (λ (j : Kernel). with-share j share) moved ∙ rw (task-seen s x, c .before .share-of .ensures) refl;
+      is = ap (λ (j : Kernel). with-total j share) moved ∙ rw (task-seen s x, c .before .share-of .ensures) refl;
     }
 
 pub free-spec : {M : Type 1} → statement M

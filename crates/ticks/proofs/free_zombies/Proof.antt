@@ -3,7 +3,7 @@ use mathlib.Core.Path.{refl}
 use lib.ListN.{length}
 use borrow.Author.Needs.{needs}
 use native.Mathlib.Omega.{arith}
-use Rattle.kernel.specs.Status.{zombie}
+use Rattle.kernel.specs.Status.{zombie-queue}
 use Rattle.kernel.specs.Kernel.{queue}
 use Rattle.kernel.specs.Tick.{free, free-zombies}
 use Rattle.kernel.specs.Seen.{seen}
@@ -15,10 +15,10 @@ use Rattle.ticks.proofs.free_zombies.Statement.{statement}
 use Rattle.ticks.proofs.free_zombies.Tie as tie
 
 abbrev Inv-loop : tie.InvT-loop
-Inv-loop r₀ x₀ r x = Sweeping Freeing free zombie r₀ r x
+Inv-loop r₀ x₀ r x = Sweeping Freeing free zombie-queue r₀ r x
 
 abbrev μ-loop : tie.MeasureT-loop
-μ-loop r₀ x₀ r x = length (queue (seen r) zombie)
+μ-loop r₀ x₀ r x = length (queue (seen r) zombie-queue)
 
 holds : tie.Need-loop-holds Inv-loop μ-loop
 holds c = let k = c .before in record { kept = k .pre .0; holds = k .pre .1; first = c .first-due .ensures; same = refl }

@@ -6,7 +6,7 @@ use lib.ListN.{length}
 use borrow.Author.Needs.{needs}
 use borrow.Author.Tests.{ltb-true, ltb-false}
 use Rattle.kernel.specs.Sizes.{task-count}
-use Rattle.kernel.specs.Status.{idle}
+use Rattle.kernel.specs.Status.{idle-queue}
 use Rattle.kernel.specs.Kernel.{queue}
 use Rattle.kernel.specs.Moves.{schedule}
 use Rattle.kernel.specs.Tick.{wake}
@@ -22,10 +22,10 @@ use Rattle.ticks.proofs.wake_idle.Statement.{statement}
 use Rattle.ticks.proofs.wake_idle.Tie as tie
 
 abbrev Inv-loop : tie.InvT-loop
-Inv-loop r₀ x₀ woke r x = Sweeping Ticking wake idle r₀ r x
+Inv-loop r₀ x₀ woke r x = Sweeping Ticking wake idle-queue r₀ r x
 
 abbrev μ-loop : tie.MeasureT-loop
-μ-loop r₀ x₀ woke r x = length (queue (seen r) idle)
+μ-loop r₀ x₀ woke r x = length (queue (seen r) idle-queue)
 
 holds : tie.Need-loop-holds Inv-loop μ-loop
 holds c = let k = c .before in record { kept = k .pre .0; holds = k .pre .1; first = c .first-due .ensures; same = refl }

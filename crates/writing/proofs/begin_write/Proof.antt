@@ -4,7 +4,7 @@ use native.Mathlib.Omega.{arith}
 use borrow.Author.Needs.{needs}
 use Rattle.kernel.specs.Channels.{lowest-buffer, begin-write, cleared}
 use Rattle.kernel.specs.Calls as Calls
-use Rattle.kernel.specs.Calls.{effect}
+use Rattle.kernel.specs.Calls.{effect, on-channel}
 use Rattle.kernel.specs.Seen.{seen}
 use Rattle.kernel.proofs.Messages.{most, inside, taken}
 use Rattle.refusals.proofs.Answers.{LetsPass, lets-pass, lent-refused, lent-took-effect}
@@ -16,14 +16,14 @@ use Rattle.writing.proofs.begin_write.Tie as tie
 abbrev k : tie.After-enum-told2 → tie.Start
 k c = c .before .before .before .before
 
-may : (c : tie.After-enum-told2) → LetsPass (Calls.begin-write (k c .args .channel .0)) (k c .args .s) (k c .args .memory .now)
+may : (c : tie.After-enum-told2) → LetsPass (on-channel (Calls.begin-write (k c .args .channel .0))) (k c .args .s) (k c .args .memory .now)
 may c = lets-pass (c .before .before .may-begin .ensures (k c .args .memory .now) refl) (c .enum-told2 .given .1)
 
 -- The buffer that is taken.
 is : (c : tie.After-lowest-buffer) → c .lowest-buffer .result ≡ lowest-buffer (seen (k (c .before) .args .s)) (k (c .before) .args .channel .0)
 is c = c .lowest-buffer .ensures (may (c .before) .allowed .1 .0)
 
-one-of-them : tie.Need-place-requires
+one-of-them : tie.Need-buffer-start-requires
 one-of-them c κs =
     let b = c .before in
     let g = may (b .before) in
@@ -37,7 +37,7 @@ fits c κs =
     let b = h .before in
     let g = may (b .before) in
     let a = g .allowed in
-    rw (p .place .ensures, is b, h .channel-of .ensures) (omega (arith, a .0, inside (g .sound .good) _ (a .1) _ (taken (g .sound .good) _ (a .1) (a .3))))
+    rw (p .buffer-start .ensures, is b, h .channel-of .ensures) (omega (arith, a .0, inside (g .sound .good) _ (a .1) _ (taken (g .sound .good) _ (a .1) (a .3))))
 
 opens : tie.Need-with-own-requires
 opens c κs =
@@ -61,7 +61,7 @@ takes-effect c =
     let b = h .before in
     let e = b .before in
     let m = e .before .before in
-    rw (c .done .ensures, w .clear .ensures, p .place .ensures, is b, h .channel-of .ensures)
+    rw (c .done .ensures, w .clear .ensures, p .buffer-start .ensures, is b, h .channel-of .ensures)
     (lent-took-effect (m .may-begin .ensures (k e .args .memory .now) refl) (e .enum-told2 .given .1) refl (rw (is b) at (n .with-own .ensures)))
 
 pub begin-write-spec : {M : Type 1} → statement M

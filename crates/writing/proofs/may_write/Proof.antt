@@ -14,7 +14,7 @@ table c =
     λ bytes is m e.
     record {
       tested =
-          of-length (c .row .ensures _ (k .args .s) _ (writing .on-channel .ensures) (λ p. passes .passes .ensures ∙ rw (h .channel-of .ensures, is) refl)) m e;
+          of-length (c .row .ensures _ (k .args .s) _ (writing .on-channel .ensures) (λ p. passes .past-message .ensures ∙ rw (h .channel-of .ensures, is) refl)) m e;
     }
 
 pub may-write-spec : {M : Type 1} → statement M

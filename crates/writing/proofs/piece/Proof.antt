@@ -5,7 +5,7 @@ use mir.Syntax.{w64}
 use borrow.Author.Needs.{needs, fits-under}
 use Rattle.kernel.specs.Channels.{own, written}
 use Rattle.kernel.specs.Calls as Calls
-use Rattle.kernel.specs.Calls.{effect}
+use Rattle.kernel.specs.Calls.{effect, on-channel}
 use Rattle.kernel.specs.Seen.{seen}
 use Rattle.kernel.proofs.Messages.{write-open}
 use Rattle.kernel.proofs.Shows.{kept, itself}
@@ -19,7 +19,7 @@ use Rattle.writing.proofs.piece.Tie as tie
 abbrev k : tie.After-enum-told2 → tie.Start
 k c = c .before .before .before .before .before
 
-may : (c : tie.After-enum-told2) → LetsPass (Calls.piece (k c .args .channel .0) (k c .args .offset) (k c .args .bytes .now)) (k c .args .s) (k c .args .memory .now)
+may : (c : tie.After-enum-told2) → LetsPass (on-channel (Calls.piece (k c .args .channel .0) (k c .args .offset) (k c .args .bytes .now))) (k c .args .s) (k c .args .memory .now)
 may c = lets-pass (c .before .before .may-write .ensures (k c .args .bytes .now) refl (k c .args .memory .now) refl) (c .enum-told2 .given .1)
 
 holding : (c : tie.After-enum-told2) → Holds (k c .args .s) (k c .args .channel .0)

@@ -2,7 +2,7 @@
 use mathlib.Core.Path.{refl}
 use borrow.Author.Needs.{needs}
 use Rattle.kernel.specs.Calls as Calls
-use Rattle.kernel.specs.Calls.{effect}
+use Rattle.kernel.specs.Calls.{effect, on-channel}
 use Rattle.kernel.specs.Channels.{own}
 use Rattle.kernel.specs.Seen.{seen}
 use Rattle.kernel.proofs.Messages.{write-open}
@@ -17,7 +17,7 @@ use Rattle.writing.proofs.put.Tie as tie
 abbrev k : tie.After-on-channel → tie.Start
 k c = c .before .before
 
-judged : (c : tie.After-on-channel) → Judged (Calls.put (k c .args .channel .0)) (k c .args .s) (k c .args .memory .now) (c .on-channel .result)
+judged : (c : tie.After-on-channel) → Judged (on-channel (Calls.put (k c .args .channel .0))) (k c .args .s) (k c .args .memory .now) (c .on-channel .result)
 judged c = record { tested = of-length (c .on-channel .ensures) (k c .args .memory .now) refl }
 
 may : tie.Need-published-requires

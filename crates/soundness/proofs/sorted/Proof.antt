@@ -7,13 +7,13 @@ use borrow.Author.Needs.{needs}
 use Rattle.kernel.specs.Status.{queue-count}
 use Rattle.kernel.specs.Seen.{next-of, head-of, seen}
 use Rattle.kernel.proofs.Decided.{yes, no}
-use Rattle.soundness.specs.Tests.{InOrder}
+use Rattle.soundness.specs.Tests.{Sorted}
 use Rattle.soundness.proofs.Walks as Walks
-use Rattle.soundness.proofs.in_order.Statement.{statement}
-use Rattle.soundness.proofs.in_order.Tie as tie
+use Rattle.soundness.proofs.sorted.Statement.{statement}
+use Rattle.soundness.proofs.sorted.Tie as tie
 
 abbrev Inv-loop : tie.InvT-loop
-Inv-loop q s head low₀ x₀ low x = Walks.At s x (Walks.Rises s q low) (InOrder (seen s) q)
+Inv-loop q s head low₀ x₀ low x = Walks.At s x (Walks.Rises s q low) (Sorted (seen s) q)
 
 abbrev μ-loop : tie.MeasureT-loop
 μ-loop q s head low₀ x₀ low x = Walks.left s x
@@ -58,8 +58,8 @@ goes c =
 ended : tie.Need-returns-3 Inv-loop μ-loop
 ended c = yes (Walks.ended (c .before .loop .inv) (c .loop-test .left) .0 tt)
 
-pub in-order-spec : {M : Type 1} → statement M
-in-order-spec =
+pub sorted-spec : {M : Type 1} → statement M
+sorted-spec =
     tie.close
     (tie.spec
     Inv-loop

@@ -2,8 +2,8 @@
 use mathlib.Core.Path.{sym, _∙_}
 use borrow.Author.Needs.{needs}
 use borrow.Author.Tests.{eq-eqb, ne-eqb}
-use Rattle.sound_clauses.proofs.held_share.Statement.{statement}
-use Rattle.sound_clauses.proofs.held_share.Tie as tie
+use Rattle.sound_clauses.proofs.counted_share.Statement.{statement}
+use Rattle.sound_clauses.proofs.counted_share.Tie as tie
 
 held : tie.Need-returns
 held c = rw (ne-eqb _ _ (λ e. c .before .if1 .taken (c .before .before .status-number .ensures ∙ e))) (c .share-of .ensures)
@@ -11,5 +11,5 @@ held c = rw (ne-eqb _ _ (λ e. c .before .if1 .taken (c .before .before .status-
 free : tie.Need-returns-2
 free c = rw (eq-eqb _ _ (sym (c .before .status-number .ensures) ∙ c .if1 .left))
 
-pub held-share-spec : {M : Type 1} → statement M
-held-share-spec = tie.close (tie.spec (λ c κs. search needs) (λ c κs. search needs) held free)
+pub counted-share-spec : {M : Type 1} → statement M
+counted-share-spec = tie.close (tie.spec (λ c κs. search needs) (λ c κs. search needs) held free)

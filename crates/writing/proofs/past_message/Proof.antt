@@ -4,8 +4,8 @@ use Prim.Native.Nat.{_+_}
 use native.Mathlib.Omega.{arith}
 use borrow.Author.Tests.{lt-ltb}
 use Rattle.writing.proofs.Past.{past}
-use Rattle.writing.proofs.passes.Statement.{statement}
-use Rattle.writing.proofs.passes.Tie as tie
+use Rattle.writing.proofs.past_message.Statement.{statement}
+use Rattle.writing.proofs.past_message.Tie as tie
 
 behind : tie.Need-returns
 behind c =
@@ -16,5 +16,5 @@ behind c =
 rest : tie.Need-returns-2
 rest c = let k = c .before in past (k .args .size) (k .args .offset) (k .args .n) (c .if1 .left)
 
-pub passes-spec : {M : Type 1} → statement M
-passes-spec = tie.close (tie.spec behind rest)
+pub past-message-spec : {M : Type 1} → statement M
+past-message-spec = tie.close (tie.spec behind rest)
