@@ -19,4 +19,5 @@ pub mod Slices
 pub mod Promise
 pub mod Fresh
 pub mod Bench
+pub mod RefusalCases
 pub mod Script
