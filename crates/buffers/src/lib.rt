@@ -73,7 +73,7 @@ pub fn is_reading(z: Session) -> bool
 }
 
 // The buffer of a session, 0 where it is closed.
-pub fn buffer(z: Session) -> u8
+pub fn buffer(z: Session) -> u32
     ensures { λ r. ⌜ r ≡ Channels.buffer z ⌝ }
 {
     match z {
@@ -123,7 +123,7 @@ pub fn put_before(l: Latest) -> bool
 }
 
 // The buffer of the latest message, 0 where nothing was put.
-pub fn newest(l: Latest) -> u8
+pub fn newest(l: Latest) -> u32
     ensures { λ r. ⌜ r ≡ Channels.newest l ⌝ }
 {
     match l {
@@ -133,7 +133,7 @@ pub fn newest(l: Latest) -> u8
 }
 
 // Whether buffer b is the latest.
-fn is_latest(l: Latest, b: u8) -> bool
+fn is_latest(l: Latest, b: u32) -> bool
     ensures { λ r. ⌜ r ≡ is-latest l b ⌝ }
 {
     match l {
@@ -143,7 +143,7 @@ fn is_latest(l: Latest, b: u8) -> bool
 }
 
 // Whether a session reads buffer b or is writing it.
-fn holds(z: Session, b: u8) -> bool
+fn holds(z: Session, b: u32) -> bool
     ensures { λ r. ⌜ r ≡ reads b z || writes b z ⌝ }
 {
     match z {
@@ -154,7 +154,7 @@ fn holds(z: Session, b: u8) -> bool
 }
 
 // Whether buffer b of channel c is read or being written.
-fn in_session(s: State, c: usize, b: u8) -> bool
+fn in_session(s: State, c: usize, b: u32) -> bool
     requires { ⌜ c < channel-count ⌝ }
     ensures { λ r. ⌜ r ≡ some-session (reads b) task-count (seen s) c || some-session (writes b) task-count (seen s) c ⌝ }
 {
@@ -171,7 +171,7 @@ fn in_session(s: State, c: usize, b: u8) -> bool
 }
 
 // Whether buffer b of channel c is not latest, not read and not being written.
-fn free_buffer(s: State, c: usize, b: u8) -> bool
+fn free_buffer(s: State, c: usize, b: u32) -> bool
     requires { ⌜ c < channel-count ⌝ }
     ensures { λ r. ⌜ r ≡ free-buffer (seen s) c b ⌝ }
 {
@@ -184,14 +184,14 @@ fn free_buffer(s: State, c: usize, b: u8) -> bool
 }
 
 // The lowest such buffer, the number of buffers where there is none.
-pub fn lowest_buffer(s: State, c: usize) -> u8
+pub fn lowest_buffer(s: State, c: usize) -> u32
     ensures { λ r. ⌜ (c < channel-count → r ≡ lowest-buffer (seen s) c) ⌝ }
 {
     if c >= State::CHANNELS {
         return 0;
     }
     let channel = s.channels[c];
-    let mut b: u8 = 0;
+    let mut b: u32 = 0;
     while b < channel.buffers {
         if free_buffer(s, c, b) {
             return b;

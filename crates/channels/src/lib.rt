@@ -90,8 +90,8 @@ pub fn open_channel(s: State, size: usize, buffers: usize) -> Reply
         Verdict::Refuses(_) => refusals::refuse(s, verdict),
         Verdict::Accepts => {
             let channel = Channel {
-                size: size as u16,
-                buffers: buffers as u8,
+                size: size as u32,
+                buffers: buffers as u32,
                 latest: Latest::Nothing,
             };
             let c = buffers::lowest_channel(s);

@@ -1,6 +1,5 @@
 -- Where create is legal, a task can be created. Assumes nothing.
 use mathlib.Core.Path.{_≡_}
-use mathlib.Core.Bool.{true, false≢true}
 use Prim.Native.Nat.{ℕ, _<_}
 use native.Mathlib.Omega.{arith}
 use Rattle.kernel.specs.declared.Class.the-variants.{Nrt, Hard}
@@ -22,9 +21,9 @@ free-one k some = found task-count _ some .0
 pub hard-creatable : {s : State} {p c : ℕ} → Legal (verb (create-hard p c)) s → Creatable s (Hard p c)
 hard-creatable l =
     let a = allows l .allowed in
-    record { kept = kept (l .sound); free = free-one _ (a .1); sized = λ e. a .0; share = a .2 }
+    record { kept = kept (l .sound); free = free-one _ (a .1); sized = a .0; share = a .2 }
 
 pub nrt-creatable : {s : State} {p : ℕ} → Legal (verb (create-nrt p)) s → Creatable s (Nrt p)
 nrt-creatable l =
     let a = allows l .allowed in
-    record { kept = kept (l .sound); free = free-one _ (a .1); sized = λ e. absurd (false≢true e); share = omega (arith, l .sound .good .shared .total-fits) }
+    record { kept = kept (l .sound); free = free-one _ (a .1); sized = a .0; share = omega (arith, l .sound .good .shared .total-fits) }

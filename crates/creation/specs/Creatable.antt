@@ -6,11 +6,11 @@ use Rattle.kernel.specs.Sizes.{task-count, whole}
 use Rattle.kernel.specs.Kernel.{share-of}
 use Rattle.kernel.specs.Tasks.{lowest-free}
 use Rattle.kernel.specs.Seen.{seen}
+use Rattle.kernel.specs.Good.{Fits}
 use Rattle.kernel.specs.Shows.{Kept}
-use Rattle.sound_clauses.specs.Task.{HardFits}
 
 pub record Creatable (s : State) (class : Class) : Type 0 where
   pub kept : Kept s
   pub free : lowest-free (seen s) < task-count
-  pub sized : HardFits class
+  pub sized : Fits class
   pub share : s .total + share-of class ≤ whole

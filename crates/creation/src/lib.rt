@@ -36,10 +36,11 @@ fn lowest_free(s: State) -> usize
 
 // The deadline of a new task: the clock, or as its priority says.
 fn first_deadline(class: Class, clock: u32) -> u32
+    requires { ⌜ Fits class ⌝ }
     ensures { λ r. ⌜ r ≡ Tasks.first-deadline class clock ⌝ }
 {
     match class {
-        Class::Nrt { priority } => State::NRT_DEADLINE + priority as u32,
+        Class::Nrt { priority } => State::NRT_DEADLINE + priority,
         Class::Hard { period: _, cost: _ } => clock,
     }
 }
@@ -121,7 +122,7 @@ pub fn create_nrt(s: State, priority: u64) -> Reply
         Verdict::Refuses(_) => refusals::refuse(s, verdict),
         Verdict::Accepts => {
             let class = Class::Nrt {
-                priority: priority as u8,
+                priority: priority as u32,
             };
             let n = lowest_free(s);
             let next = created(s, class);

@@ -13,7 +13,7 @@ pub struct SemaphoreNo(pub usize);
 pub struct ChannelNo(pub usize);
 
 pub enum Class {
-    Nrt { priority: u8 },
+    Nrt { priority: u32 },
     Hard { period: u32, cost: u32 },
 }
 
@@ -32,33 +32,33 @@ pub struct Task {
     pub class: Class,
     pub status: Status,
     pub deadline: u32,
-    pub next: i8,
-    pub previous: i8,
+    pub next: i64,
+    pub previous: i64,
 }
 
 pub struct Semaphore {
     pub used: bool,
-    pub count: u16,
+    pub count: u32,
 }
 
 // The buffer of the last message put.
 pub enum Latest {
     Nothing,
-    Buffer(u8),
+    Buffer(u32),
 }
 
 // Size 0 says that the channel is unused.
 pub struct Channel {
-    pub size: u16,
-    pub buffers: u8,
+    pub size: u32,
+    pub buffers: u32,
     pub latest: Latest,
 }
 
 // A task's session on a channel, with its buffer.
 pub enum Session {
     Closed,
-    Write(u8),
-    Reading(u8),
+    Write(u32),
+    Reading(u32),
 }
 
 pub struct Slot {
@@ -79,7 +79,7 @@ pub struct State {
     pub running: TaskNo,
     pub total: u32,
     pub tasks: [Task; State::TASKS],
-    pub heads: [i8; State::QUEUES],
+    pub heads: [i64; State::QUEUES],
     pub semaphores: [Semaphore; State::SEMAPHORES],
     pub channels: [Channel; State::CHANNELS],
     pub sessions: [Slot; State::SESSIONS],
@@ -112,11 +112,11 @@ impl State {
 
     pub const LONGEST_PERIOD: u32 = 72000;
 
-    pub const LAST_PRIORITY: u8 = 254;
+    pub const LAST_PRIORITY: u32 = 254;
 
-    pub const MAIN_PRIORITY: u8 = 255;
+    pub const MAIN_PRIORITY: u32 = 255;
 
-    pub const HIGHEST_COUNT: u16 = 65535;
+    pub const HIGHEST_COUNT: u32 = 65535;
 
     pub const LONGEST_MESSAGE: usize = 512;
 
@@ -181,7 +181,7 @@ impl State {
                 priority: State::MAIN_PRIORITY,
             },
             status: Status::Exe,
-            deadline: State::NRT_DEADLINE + State::MAIN_PRIORITY as u32,
+            deadline: State::NRT_DEADLINE + State::MAIN_PRIORITY,
             next: -1,
             previous: -1,
         };
@@ -205,7 +205,7 @@ impl State {
             running: TaskNo(0),
             total: 0,
             tasks: tasks,
-            heads: [-1i8; State::QUEUES],
+            heads: [-1i64; State::QUEUES],
             semaphores: [unused; State::SEMAPHORES],
             channels: [channel; State::CHANNELS],
             sessions: [slot; State::SESSIONS],

@@ -15,7 +15,7 @@ use kernel::Status;
 use kernel::Task;
 
 // The task that a link leads to, TASKS where it leads to none.
-pub fn target(link: i8) -> usize
+pub fn target(link: i64) -> usize
     ensures { λ r. ⌜ r ≡ leads-to task-count link ⌝ }
 {
     if link < 0 {
@@ -41,8 +41,8 @@ fn store(
     class: Class,
     status: Status,
     deadline: u32,
-    next: i8,
-    previous: i8,
+    next: i64,
+    previous: i64,
 ) -> State
     requires { ⌜ i < task-count ⌝ }
     ensures { λ r. ⌜ r ≡ with-record s i class status deadline next previous ⌝ }
@@ -60,7 +60,7 @@ fn store(
 }
 
 // One link of task x. Past the table there is none, and nothing is written: so too where a queue's only task goes.
-fn set_next(s: State, x: usize, link: i8) -> State
+fn set_next(s: State, x: usize, link: i64) -> State
     ensures { λ r. ⌜ r ≡ with-next s x link ⌝ }
 {
     if x < State::TASKS {
@@ -73,7 +73,7 @@ fn set_next(s: State, x: usize, link: i8) -> State
     s
 }
 
-fn set_previous(s: State, x: usize, link: i8) -> State
+fn set_previous(s: State, x: usize, link: i64) -> State
     ensures { λ r. ⌜ r ≡ with-previous s x link ⌝ }
 {
     if x < State::TASKS {
@@ -88,7 +88,7 @@ fn set_previous(s: State, x: usize, link: i8) -> State
 
 // The links on both sides of a place in queue q are turned: what stands before it, or the head, leads to v, and what stands after it
 // back to w.
-fn relink(s: State, q: usize, before: i8, after: i8, v: i8, w: i8) -> State
+fn relink(s: State, q: usize, before: i64, after: i64, v: i64, w: i64) -> State
     requires { ⌜ q < queue-count ⌝ }
     ensures { λ r. ⌜ r ≡ relinked s q before after v w ⌝ }
 {
@@ -108,8 +108,8 @@ fn relink(s: State, q: usize, before: i8, after: i8, v: i8, w: i8) -> State
 
 // The links on both sides of a place.
 struct Gap {
-    before: i8,
-    after: i8,
+    before: i64,
+    after: i64,
 }
 
 // Where a task of this deadline goes in queue q: past every deadline no later than its own.
@@ -118,7 +118,7 @@ fn scan(s: State, q: usize, deadline: u32) -> Gap
     ensures { λ r. ⌜ Sides s q deadline (r .before) (r .after) ⌝ }
 {
     let heads = s.heads;
-    let mut before: i8 = -1;
+    let mut before: i64 = -1;
     let mut after = heads[q];
     let mut x = target(after);
     while x < State::TASKS {
@@ -161,7 +161,7 @@ fn file(s: State, i: usize, class: Class, status: Status, deadline: u32) -> Stat
         let gap = scan(s, q, deadline);
         let before = gap.before;
         let after = gap.after;
-        let link = i as i8;
+        let link = i as i64;
         let a = store(s, i, class, status, deadline, after, before);
         return relink(a, q, before, after, link, link);
     }

@@ -33,7 +33,7 @@ fn no_semaphore(s: State, n: usize) -> bool
 }
 
 // The count of semaphore n, 0 where there is no such semaphore.
-fn count_of(s: State, n: usize) -> u16
+fn count_of(s: State, n: usize) -> u32
     ensures { λ r. ⌜ r ≡ semaphore (seen s) n .count ⌝ }
 {
     if n < State::SEMAPHORES {
@@ -44,7 +44,7 @@ fn count_of(s: State, n: usize) -> u16
 }
 
 // Semaphore n is this from now on.
-fn store(s: State, n: usize, used: bool, count: u16) -> State
+fn store(s: State, n: usize, used: bool, count: u32) -> State
     requires { ⌜ Kept s ⌝ ∗ ⌜ n < semaphore-count ⌝ }
     ensures { λ r. ⌜ Shows r (with-semaphore (seen s) n (record { used = used; count = count })) ⌝ }
 {
@@ -88,7 +88,7 @@ fn made(s: State, n: usize, count: u64) -> State
     requires { ⌜ Legal (verb (Calls.new-semaphore count)) s ⌝ ∗ ⌜ n ≡ lowest-semaphore (seen s) ⌝ }
     ensures { λ r. ⌜ Shows r (Semaphores.new-semaphore count (seen s)) ⌝ }
 {
-    store(s, n, true, count as u16)
+    store(s, n, true, count as u32)
 }
 
 // Takes the lowest unused semaphore, with this count, and answers its number.

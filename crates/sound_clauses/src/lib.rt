@@ -20,7 +20,7 @@ use kernel::Stop;
 use kernel::Task;
 
 // Whether a class is NRT of that priority.
-fn is_nrt(class: Class, priority: u8) -> bool
+fn is_nrt(class: Class, priority: u32) -> bool
     ensures { λ r. ⌜ ((r ≡ true) ↔ (class ≡ Nrt priority)) ⌝ }
 {
     match class {
@@ -50,7 +50,7 @@ fn fits(class: Class) -> bool
 }
 
 // Whether task x is EXE exactly where it is the stored one.
-fn exe_stored(n: usize, x: usize, running: usize) -> bool
+pub fn exe_stored(n: usize, x: usize, running: usize) -> bool
     ensures { λ r. ⌜ ((r ≡ true) ↔ ((n ≡ EXE) ↔ (x ≡ running))) ⌝ }
 {
     if n == Status::EXE {
@@ -70,7 +70,7 @@ fn exe_or_ready(n: usize) -> bool
 }
 
 // Whether task x is what its number asks: the main task for 0, one that keeps the sizes for others.
-fn main_or_sized(x: usize, class: Class, n: usize) -> bool
+pub fn main_or_sized(x: usize, class: Class, n: usize) -> bool
     ensures { λ r. ⌜ ((r ≡ true) ↔ MainOrSized x class n) ⌝ }
 {
     if x != 0 {
@@ -83,13 +83,13 @@ fn main_or_sized(x: usize, class: Class, n: usize) -> bool
 }
 
 // Whether a deadline is one that class and status allow.
-fn timely(clock: u32, class: Class, n: usize, deadline: u32) -> bool
+pub fn timely(clock: u32, class: Class, n: usize, deadline: u32) -> bool
     ensures { λ r. ⌜ ((r ≡ true) ↔ Timely clock class n deadline) ⌝ }
 {
     match class {
         Class::Nrt { priority } => {
             if n != Status::FREE {
-                deadline == State::NRT_DEADLINE + priority as u32
+                deadline as u64 == State::NRT_DEADLINE as u64 + priority as u64
             } else {
                 deadline == 0
             }
@@ -99,7 +99,7 @@ fn timely(clock: u32, class: Class, n: usize, deadline: u32) -> bool
 }
 
 // Whether the class allows a status of number n.
-fn suited(class: Class, n: usize) -> bool
+pub fn suited(class: Class, n: usize) -> bool
     ensures { λ r. ⌜ ((r ≡ true) ↔ Suited class n) ⌝ }
 {
     if n == Status::FREE {
@@ -118,7 +118,7 @@ fn suited(class: Class, n: usize) -> bool
 }
 
 // Whether an IDLE deadline is above the clock, if not stopped.
-fn idle_ahead(stop: usize, n: usize, clock: u32, deadline: u32) -> bool
+pub fn idle_ahead(stop: usize, n: usize, clock: u32, deadline: u32) -> bool
     ensures { λ r. ⌜ ((r ≡ true) ↔ IdleAhead stop n clock deadline) ⌝ }
 {
     if n != Status::IDLE {
@@ -223,7 +223,7 @@ fn earliest(s: State, d: u32) -> bool
 }
 
 // Whether a running HARD deadline is not below the clock, if not stopped.
-fn in_time(stop: usize, class: Class, clock: u32, deadline: u32) -> bool
+pub fn in_time(stop: usize, class: Class, clock: u32, deadline: u32) -> bool
     ensures { λ r. ⌜ ((r ≡ true) ↔ InTime stop class clock deadline) ⌝ }
 {
     if stop != Stop::GOING {
@@ -273,14 +273,12 @@ pub fn share_of(class: Class) -> u64
     }
 }
 
-// What a task adds to the share total.
-fn counted_share(a: Task) -> u64
-    requires { ⌜ HardFits (a .class) ⌝ }
-    ensures { λ r. ⌜ r ≡ counted-share (bare a) ⌝ }
+// What a task of that class and status adds to the share total, whatever its deadline.
+pub fn counted_share(class: Class, status: Status) -> u64
+    requires { ⌜ HardFits class ⌝ }
+    ensures { λ r. ⌜ r ≡ counted-share (record { class = class; status = status; deadline = 0 }) ⌝ }
 {
-    let status = a.status;
     let n = kernel::status_number(status);
-    let class = a.class;
     if n != Status::FREE {
         return share_of(class);
     }
@@ -296,7 +294,9 @@ pub fn shares_good(s: State) -> bool
     let mut x: usize = 0;
     while x < State::TASKS {
         let a = s.tasks[x];
-        total += counted_share(a);
+        let class = a.class;
+        let status = a.status;
+        total += counted_share(class, status);
         x += 1;
     }
     let share = s.total as u64;
@@ -307,9 +307,12 @@ pub fn shares_good(s: State) -> bool
 }
 
 // Whether a semaphore is good whose first waiter is `first`, no task's number where it has none.
-fn semaphore_good(a: Semaphore, first: usize) -> bool
+pub fn semaphore_good(a: Semaphore, first: usize) -> bool
     ensures { λ r. ⌜ ((r ≡ true) ↔ Counted a (task-count ≤ first)) ⌝ }
 {
+    if a.count > State::HIGHEST_COUNT {
+        return false;
+    }
     if first < State::TASKS {
         if 0 < a.count {
             return false;

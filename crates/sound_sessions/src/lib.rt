@@ -18,7 +18,7 @@ use kernel::State;
 use kernel::Status;
 
 // Whether an unused channel has no buffers, and a used one keeps its sizes.
-fn keeps_sizes(size: u16, buffers: u8) -> bool
+fn keeps_sizes(size: u32, buffers: u32) -> bool
     ensures { λ r. ⌜ ((r ≡ true) ↔ KeepsSizes size buffers) ⌝ }
 {
     if size as usize > State::LONGEST_MESSAGE {
@@ -34,7 +34,7 @@ fn keeps_sizes(size: u16, buffers: u8) -> bool
 }
 
 // Whether the latest is one of so many buffers, or none.
-fn names_latest(latest: Latest, buffers: u8) -> bool
+fn names_latest(latest: Latest, buffers: u32) -> bool
     ensures { λ r. ⌜ ((r ≡ true) ↔ NamesLatest buffers latest) ⌝ }
 {
     match latest {
@@ -44,7 +44,7 @@ fn names_latest(latest: Latest, buffers: u8) -> bool
 }
 
 // Whether a channel's own record is in order. An unused one, which has no buffers, can then have no latest and no session.
-fn keeps_channel(channel: Channel) -> bool
+pub fn keeps_channel(channel: Channel) -> bool
     ensures { λ r. ⌜ ((r ≡ true) ↔ KeepsChannel channel) ⌝ }
 {
     if !keeps_sizes(channel.size, channel.buffers) {
@@ -55,7 +55,7 @@ fn keeps_channel(channel: Channel) -> bool
 }
 
 // Whether a task of that status may have a session open on buffer b of so many: it is neither FREE nor ZOMBIE.
-fn may_hold(status: Status, b: u8, buffers: u8) -> bool
+fn may_hold(status: Status, b: u32, buffers: u32) -> bool
     ensures { λ r. ⌜ ((r ≡ true) ↔ GoodSession (status-number status) b buffers) ⌝ }
 {
     let n = kernel::status_number(status);
@@ -69,7 +69,7 @@ fn may_hold(status: Status, b: u8, buffers: u8) -> bool
 }
 
 // Whether buffer b is not the latest.
-fn not_latest(latest: Latest, b: u8) -> bool
+fn not_latest(latest: Latest, b: u32) -> bool
     ensures { λ r. ⌜ ((r ≡ true) ↔ (latest ≡ Buffer b → ⊥)) ⌝ }
 {
     match latest {
@@ -89,7 +89,7 @@ fn put_first(latest: Latest) -> bool
 }
 
 // Whether a session is open and names buffer b.
-fn names(session: Session, b: u8) -> bool
+pub fn names(session: Session, b: u32) -> bool
     ensures { λ r. ⌜ ((r ≡ true) ↔ Opens session b) ⌝ }
 {
     match session {
@@ -100,7 +100,7 @@ fn names(session: Session, b: u8) -> bool
 }
 
 // Whether a session of a task of that status keeps the rules by itself.
-fn keeps_session(session: Session, status: Status, channel: Channel) -> bool
+pub fn keeps_session(session: Session, status: Status, channel: Channel) -> bool
     ensures { λ r. ⌜ ((r ≡ true) ↔ KeepsSession channel (status-number status) session) ⌝ }
 {
     let latest = channel.latest;
@@ -122,7 +122,7 @@ fn keeps_session(session: Session, status: Status, channel: Channel) -> bool
 }
 
 // Whether no other task's session on channel c names buffer b, for a write or a reading.
-fn alone(sessions: [Slot; State::SESSIONS], c: usize, t: usize, b: u8) -> bool
+fn alone(sessions: [Slot; State::SESSIONS], c: usize, t: usize, b: u32) -> bool
     requires { ⌜ c < channel-count ⌝ }
     ensures { λ r. ⌜ ((r ≡ true) ↔ Alone task-count (session-at sessions c) t b) ⌝ }
 {

@@ -14,7 +14,7 @@ ghost use Rattle.soundness.specs.Tests.{Sorted, GoodQueue, Loose, FiledT
 use kernel::State;
 
 // Whether two links are the same.
-fn same(a: i8, b: i8) -> bool
+fn same(a: i64, b: i64) -> bool
     ensures { λ r. ⌜ ((r ≡ true) ↔ (a ≡ b)) ⌝ }
 {
     if a == b {
@@ -29,7 +29,7 @@ fn chained(s: State, q: usize) -> bool
     ensures { λ r. ⌜ ((r ≡ true) ↔ Linked s q) ⌝ }
 {
     let heads = s.heads;
-    let mut back: i8 = -1;
+    let mut back: i64 = -1;
     let mut now = heads[q];
     let mut left: usize = State::TASKS;
     while left > 0 {

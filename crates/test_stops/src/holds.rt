@@ -11,9 +11,9 @@ fn number(name: &[u8], n: u64) {
     test_lines::number(n);
 }
 
-fn link(name: &[u8], n: i8) {
+fn link(name: &[u8], n: i64) {
     write(name);
-    signed(n as i64);
+    signed(n);
 }
 
 fn reason(stop: Stop) -> i64 {

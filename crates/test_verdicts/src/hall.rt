@@ -12,7 +12,14 @@ use kernel::Stop;
 use kernel::Task;
 use kernel::TaskNo;
 
-pub fn hard(status: Status, period: u32, cost: u32, deadline: u32, next: i8, previous: i8) -> Task {
+pub fn hard(
+    status: Status,
+    period: u32,
+    cost: u32,
+    deadline: u32,
+    next: i64,
+    previous: i64,
+) -> Task {
     Task {
         class: Class::Hard { period, cost },
         status,
@@ -22,18 +29,19 @@ pub fn hard(status: Status, period: u32, cost: u32, deadline: u32, next: i8, pre
     }
 }
 
-pub fn nrt(status: Status, priority: u8, next: i8, previous: i8) -> Task {
+pub fn nrt(status: Status, priority: u8, next: i64, previous: i64) -> Task {
+    let priority = priority as u32;
     Task {
         class: Class::Nrt { priority },
         status,
-        deadline: State::NRT_DEADLINE + priority as u32,
+        deadline: State::NRT_DEADLINE + priority,
         next,
         previous,
     }
 }
 
 // A FREE record as it must be has priority 0 and deadline 0.
-pub fn free(priority: u8, deadline: u32) -> Task {
+pub fn free(priority: u32, deadline: u32) -> Task {
     Task {
         class: Class::Nrt { priority },
         status: Status::Free,
@@ -50,7 +58,7 @@ pub fn waits(semaphore: usize) -> Status {
 // Task 1 runs; 2, 3 and the main task are ready, in this order; 4 is idle, 5 a zombie; 6 and 7 wait at semaphore 1; 8 and 9 sleep.
 fn tasks() -> State {
     let mut s = State::fresh();
-    s = with_task(s, 0, nrt(Status::Ready, State::MAIN_PRIORITY, -1, 3));
+    s = with_task(s, 0, nrt(Status::Ready, 255, -1, 3));
     s = with_task(s, 1, hard(Status::Exe, 10, 2, 8, -1, -1));
     s = with_task(s, 2, hard(Status::Ready, 10, 3, 9, 3, -1));
     s = with_task(s, 3, hard(Status::Ready, 10, 1, 9, 0, 2));
@@ -121,7 +129,7 @@ pub fn with_task(s: State, x: usize, t: Task) -> State {
     r
 }
 
-pub fn with_head(s: State, q: usize, link: i8) -> State {
+pub fn with_head(s: State, q: usize, link: i64) -> State {
     let mut r = s;
     let mut heads = r.heads;
     if q < State::QUEUES {
@@ -131,7 +139,7 @@ pub fn with_head(s: State, q: usize, link: i8) -> State {
     r
 }
 
-pub fn with_semaphore(s: State, n: usize, used: bool, count: u16) -> State {
+pub fn with_semaphore(s: State, n: usize, used: bool, count: u32) -> State {
     let mut r = s;
     let semaphore = Semaphore { used, count };
     if n < State::SEMAPHORES {
@@ -140,7 +148,7 @@ pub fn with_semaphore(s: State, n: usize, used: bool, count: u16) -> State {
     r
 }
 
-pub fn with_channel(s: State, c: usize, size: u16, buffers: u8, latest: Latest) -> State {
+pub fn with_channel(s: State, c: usize, size: u32, buffers: u32, latest: Latest) -> State {
     let mut r = s;
     let channel = Channel {
         size,

@@ -36,7 +36,7 @@ fn shared_task(name: &[u8], x: usize, t: Task, total: u32) {
     show(name, with_share(with_task(hall(), x, t), total));
 }
 
-fn head(name: &[u8], q: usize, link: i8) {
+fn head(name: &[u8], q: usize, link: i64) {
     show(name, hall::with_head(hall(), q, link));
 }
 
@@ -48,11 +48,11 @@ fn share(name: &[u8], total: u32) {
     show(name, with_share(hall(), total));
 }
 
-fn semaphore(name: &[u8], n: usize, used: bool, count: u16) {
+fn semaphore(name: &[u8], n: usize, used: bool, count: u32) {
     show(name, hall::with_semaphore(hall(), n, used, count));
 }
 
-fn channel(name: &[u8], c: usize, size: u16, buffers: u8, latest: Latest) {
+fn channel(name: &[u8], c: usize, size: u32, buffers: u32, latest: Latest) {
     show(name, hall::with_channel(hall(), c, size, buffers, latest));
 }
 
@@ -223,6 +223,7 @@ fn totals() {
     semaphore(b"count above 0 with waiters", 1, true, 1);
     semaphore(b"unused with a count", 2, false, 1);
     semaphore(b"count 65535", 2, true, 65535);
+    semaphore(b"count 65536", 2, true, 65536);
 }
 
 // Channels and sessions.

@@ -18,7 +18,7 @@ fn next(seed: u64) -> u64
 // Next links are numbered first, then previous links, then heads.
 const LINKS: u64 = 2 * State::TASKS as u64 + State::QUEUES as u64;
 
-fn link_at(s: State, n: usize) -> i8 {
+fn link_at(s: State, n: usize) -> i64 {
     if n < State::TASKS {
         let t = s.tasks[n];
         return t.next;
@@ -36,7 +36,7 @@ fn link_at(s: State, n: usize) -> i8 {
     -1
 }
 
-fn with_links(t: Task, next: i8, previous: i8) -> Task {
+fn with_links(t: Task, next: i64, previous: i64) -> Task {
     let class = t.class;
     let status = t.status;
     Task {
@@ -48,7 +48,7 @@ fn with_links(t: Task, next: i8, previous: i8) -> Task {
     }
 }
 
-fn with_link(s: State, n: usize, link: i8) -> State {
+fn with_link(s: State, n: usize, link: i64) -> State {
     if n < State::TASKS {
         let t = s.tasks[n];
         return hall::with_task(s, n, with_links(t, link, t.previous));
@@ -62,7 +62,7 @@ fn with_link(s: State, n: usize, link: i8) -> State {
 }
 
 // 1 where the verdict on the changed state is the right one.
-fn right(n: usize, link: i8) -> u64
+fn right(n: usize, link: i64) -> u64
     ensures { λ r. ⌜ r ≤ 1 ⌝ }
 {
     let s = hall::hall();
@@ -80,11 +80,11 @@ fn right(n: usize, link: i8) -> u64
     1
 }
 
-// A link from 0 to 35, or one of -1, -2 and -128.
-fn drawn(seed: u64) -> i8 {
+// A link from 0 to 35, or one of -1, -2 and the least i64.
+fn drawn(seed: u64) -> i64 {
     let n = seed / 65536 % 40;
     if n < 36 {
-        return n as i8;
+        return n as i64;
     }
     if n < 38 {
         return -1;
@@ -92,7 +92,7 @@ fn drawn(seed: u64) -> i8 {
     if n < 39 {
         return -2;
     }
-    -128
+    -9223372036854775808
 }
 
 pub fn links() {

@@ -3,8 +3,7 @@ use mathlib.Core.Path.{refl}
 use Prim.Native.Nat.{_<_}
 use native.Mathlib.Omega.{arith}
 use lib.Dec.{eqb}
-use mir.Syntax.{w8, w16}
-use borrow.Author.Needs.{needs, fits-under}
+use borrow.Author.Needs.{needs}
 use Rattle.kernel.specs.Sizes.{channel-count}
 use Rattle.kernel.specs.Kernel.{channel}
 use Rattle.kernel.specs.Channels.{lowest-channel, open-channel}
@@ -22,10 +21,10 @@ may : (c : tie.After-enum-told2) → Legal (on-channel (Calls.open-channel (c .b
 may c = legal (c .before .before .may-open .ensures) (c .enum-told2 .given .1)
 
 size : tie.Need-cast-t9
-size c = let l = allows (may c) .allowed .0 in fits-under w16 _ 65536 (omega arith) tt
+size c = let l = allows (may c) .allowed .0 in omega arith
 
 number : tie.Need-cast-t10
-number c = let l = allows (may c) .allowed .1 in fits-under w8 _ 256 (omega arith) tt
+number c = let l = allows (may c) .allowed .1 in omega arith
 
 -- There is an unused channel.
 room : (c : tie.After-lowest-channel) → c .lowest-channel .result < channel-count

@@ -2,8 +2,7 @@
 use mathlib.Core.Path.{refl}
 use Prim.Native.Nat.{_<_}
 use native.Mathlib.Omega.{arith}
-use mir.Syntax.{w8}
-use borrow.Author.Needs.{needs, fits-under}
+use borrow.Author.Needs.{needs}
 use Rattle.kernel.specs.Sizes.{task-count}
 use Rattle.kernel.specs.Calls.{create-nrt, verb, effect}
 use Rattle.refusals.specs.Tested.{Legal}
@@ -16,7 +15,7 @@ may : (c : tie.After-enum-told2) → Legal (verb (create-nrt (c .before .before 
 may c = legal (c .before .before .may-create-nrt .ensures) (c .enum-told2 .given .1)
 
 priority : tie.Need-cast-t8
-priority c = let l = allows (may c) .allowed .0 in fits-under w8 _ 256 (omega arith) tt
+priority c = let l = allows (may c) .allowed .0 in omega arith
 
 number : tie.Need-done-with-requires
 number c κs =

@@ -35,8 +35,8 @@ created-spec =
     tie.close
     (tie.spec
     (λ c κs. search needs)
-    (λ c κs. search needs)
-    (λ c κs. c .before .before .pre .sized)
+    (λ c κs. c .before .pre .sized)
+    (λ c κs e. c .before .before .pre .sized)
     (λ c. let l = total c in fits-under w32 _ 4294967296 (omega arith) tt)
     joins
     sleeps

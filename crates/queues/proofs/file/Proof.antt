@@ -3,7 +3,7 @@ use mathlib.Core.Path.{_≡_}
 use native.Mathlib.Omega.{arith}
 use lib.IntN.{pos}
 use mir.Facts.{toZ-pos}
-use mir.Syntax.{w8}
+use mir.Syntax.{w64}
 use mir.Val.{toZ, ofZ}
 use borrow.Author.Needs.{needs}
 use borrow.Author.Tests.{lt-ltb, le-ltb}
@@ -22,9 +22,9 @@ into c =
     let k = c .before .before .before .before in
     let q = k .before .before .queue-of .ensures in
     let found = k .scan .result in
-    let before-bits : toZ w8 (ofZ w8 (found .before)) ≡ found .before = search needs in
-    let after-bits : toZ w8 (ofZ w8 (found .after)) ≡ found .after = search needs in
-    let link-bits : toZ w8 (k .before .before .before .args .i) ≡ pos (k .before .before .before .args .i) = toZ-pos w8 (omega arith) in
+    let before-bits : toZ w64 (ofZ w64 (found .before)) ≡ found .before = search needs in
+    let after-bits : toZ w64 (ofZ w64 (found .after)) ≡ found .after = search needs in
+    let link-bits : toZ w64 (k .before .before .before .args .i) ≡ pos (k .before .before .before .args .i) = toZ-pos w64 (omega arith) in
     rw (lt-ltb _ _ (rw q at (k .before .if1 .taken)))
     (rw (c .before .store .ensures, before-bits, after-bits, link-bits, k .scan .ensures .before-is, k .scan .ensures .after-is, q) at (c .relink .ensures))
 

@@ -1,7 +1,7 @@
 -- The neighbours of a place, or the head, are turned. Assumes nothing.
 use mathlib.Core.Path.{_≡_}
 use mir.Facts.{toZ-ofZ}
-use mir.Syntax.{w8}
+use mir.Syntax.{w64}
 use mir.Val.{toZ, ofZ}
 use borrow.Author.Needs.{needs}
 use borrow.Author.Tests.{lt-ltb, le-ltb}
@@ -13,16 +13,16 @@ use Rattle.queues.proofs.relink.Tie as tie
 
 -- The links that are handed in are what their bits say.
 module _ (c : tie.Start) where
-  bits-before : toZ w8 (ofZ w8 (c .args .before)) ≡ c .args .before
+  bits-before : toZ w64 (ofZ w64 (c .args .before)) ≡ c .args .before
   bits-before = toZ-ofZ (c .fits .before)
 
-  bits-after : toZ w8 (ofZ w8 (c .args .after)) ≡ c .args .after
+  bits-after : toZ w64 (ofZ w64 (c .args .after)) ≡ c .args .after
   bits-after = toZ-ofZ (c .fits .after)
 
-  bits-v : toZ w8 (ofZ w8 (c .args .v)) ≡ c .args .v
+  bits-v : toZ w64 (ofZ w64 (c .args .v)) ≡ c .args .v
   bits-v = toZ-ofZ (c .fits .v)
 
-  bits-w : toZ w8 (ofZ w8 (c .args .w)) ≡ c .args .w
+  bits-w : toZ w64 (ofZ w64 (c .args .w)) ≡ c .args .w
   bits-w = toZ-ofZ (c .fits .w)
 
 -- Both neighbours are turned.
@@ -47,4 +47,4 @@ at-the-head c =
     rw (le-ltb _ _ t, bits-v k, rejoined (c .before .before))
 
 pub relink-spec : {M : Type 1} → statement M
-relink-spec = tie.close (tie.spec (λ c κs. search needs) (λ c κs. search needs) (λ c κs. search needs) (λ c κs. search needs) at-a-task (λ c. search needs) at-the-head)
+relink-spec = tie.close (tie.spec (λ c κs. search needs) (λ c κs. search needs) (λ c κs. search needs) (λ c κs. search needs) at-a-task (λ c. search needs) (λ c. search needs) at-the-head)

@@ -1,7 +1,7 @@
 -- The scan passes every deadline no later than the new one's. Assumes nothing.
 use mathlib.Core.Path.{_≡_}
 use lib.ListN.{length}
-use mir.Syntax.{w8}
+use mir.Syntax.{w64}
 use mir.Val.{toZ, ofZ}
 use borrow.Author.Needs.{needs}
 use Rattle.kernel.specs.Status.{queue-count}
@@ -11,10 +11,10 @@ use Rattle.queues.proofs.scan.Statement.{statement}
 use Rattle.queues.proofs.scan.Tie as tie
 
 abbrev Inv-loop : tie.InvT-loop
-Inv-loop q deadline s before₀ after₀ x₀ before after x = Scans.At s q deadline (toZ w8 before) (toZ w8 after) x
+Inv-loop q deadline s before₀ after₀ x₀ before after x = Scans.At s q deadline (toZ w64 before) (toZ w64 after) x
 
 abbrev μ-loop : tie.MeasureT-loop
-μ-loop q deadline s before₀ after₀ x₀ before after x = Scans.left s (toZ w8 after)
+μ-loop q deadline s before₀ after₀ x₀ before after x = Scans.left s (toZ w64 after)
 
 long : (c : tie.Start Inv-loop μ-loop) → length (c .args .t1 .heads) ≡ queue-count
 long c = search needs
@@ -23,7 +23,7 @@ begins : tie.Need-loop-holds Inv-loop μ-loop
 begins c =
     let k = c .before .before .before in
     let head = head-of (k .args .t1 .heads) (k .args .q) in
-    let bits : toZ w8 (ofZ w8 head) ≡ head = search needs in
+    let bits : toZ w64 (ofZ w64 head) ≡ head = search needs in
     rw (c .target .ensures, bits) (Scans.begins (long k) (k .pre .0) (k .pre .1))
 
 stops : tie.Need-returns Inv-loop μ-loop
@@ -34,7 +34,7 @@ stops c =
 
 -- The next link is what its bits say.
 bits : (c : tie.After-target2 Inv-loop μ-loop) → (let w = c .before .before .before .before .before .before in
-    let next = next-of (w .before .before .before .before .args .t1 .tasks) (w .loop .x) in toZ w8 (ofZ w8 next) ≡ next)
+    let next = next-of (w .before .before .before .before .args .t1 .tasks) (w .loop .x) in toZ w64 (ofZ w64 next) ≡ next)
 bits c = search needs
 
 falls : tie.Need-loop-less Inv-loop μ-loop
@@ -60,6 +60,7 @@ scan-spec =
     (tie.spec
     Inv-loop
     μ-loop
+    (λ c. search needs)
     (λ c. search needs)
     (λ c κs. search needs)
     begins

@@ -3,7 +3,7 @@ use mathlib.Core.Path.{_≡_}
 use native.Mathlib.Omega.{arith}
 use lib.ListN.{length}
 use mir.Facts.{toZ-ofZ}
-use mir.Syntax.{w8}
+use mir.Syntax.{w64}
 use mir.Val.{toZ, ofZ}
 use borrow.Author.Needs.{needs}
 use Rattle.kernel.specs.Sizes.{task-count}
@@ -19,8 +19,8 @@ unfolding with-previous
 written c =
     let k = c .before .before .before .before in
     let kept = next-of (k .args .t1 .tasks) (k .args .x) in
-    let link-bits : toZ w8 (ofZ w8 (k .args .link)) ≡ k .args .link = toZ-ofZ (k .fits .link) in
-    let kept-bits : toZ w8 (ofZ w8 kept) ≡ kept = search needs in
+    let link-bits : toZ w64 (ofZ w64 (k .args .link)) ≡ k .args .link = toZ-ofZ (k .fits .link) in
+    let kept-bits : toZ w64 (ofZ w64 kept) ≡ kept = search needs in
     rw (link-bits, kept-bits) at (c .store .ensures)
 
 past : tie.Need-returns-2

@@ -1,7 +1,7 @@
 -- A task goes out of its queue, if it is in one. Assumes nothing.
 use mathlib.Core.Path.{_≡_, refl}
 use lib.IntN.{ℤ}
-use mir.Syntax.{w8}
+use mir.Syntax.{w64}
 use mir.Val.{toZ, ofZ}
 use borrow.Author.Needs.{needs}
 use borrow.Author.Tests.{lt-ltb, le-ltb}
@@ -18,10 +18,10 @@ module _ (c : tie.After-struct-told2) where
   abbrev own-previous : ℤ
   own-previous = previous-of (c .before .before .before .before .before .args .t1 .tasks) (c .before .before .before .before .before .args .i)
 
-  next-bits : toZ w8 (ofZ w8 own-next) ≡ own-next
+  next-bits : toZ w64 (ofZ w64 own-next) ≡ own-next
   next-bits = search needs
 
-  previous-bits : toZ w8 (ofZ w8 own-previous) ≡ own-previous
+  previous-bits : toZ w64 (ofZ w64 own-previous) ≡ own-previous
   previous-bits = search needs
 
 out : tie.Need-returns

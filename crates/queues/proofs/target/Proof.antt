@@ -3,7 +3,7 @@ use mathlib.Core.Path.{_≡_}
 use native.Mathlib.Omega.{arith}
 use lib.Signed.{natAbs-le}
 use mir.Facts.{toZ-ofZ}
-use mir.Syntax.{w8}
+use mir.Syntax.{w64}
 use mir.Val.{toZ, ofZ}
 use Rattle.laws_chain.proofs.Links.{below-zero, not-below-zero}
 use Rattle.kernel.specs.Sizes.{task-count}
@@ -11,7 +11,7 @@ use Rattle.queues.proofs.target.Statement.{statement}
 use Rattle.queues.proofs.target.Tie as tie
 
 -- The link is what its bits say.
-bits : (c : tie.Start) → toZ w8 (ofZ w8 (c .args .link)) ≡ c .args .link
+bits : (c : tie.Start) → toZ w64 (ofZ w64 (c .args .link)) ≡ c .args .link
 bits c = toZ-ofZ (c .fits .link)
 
 none : tie.Need-returns

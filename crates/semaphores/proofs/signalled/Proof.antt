@@ -28,7 +28,7 @@ wakes c =
     (then schedule (c .before .restate .ensures) (c .schedule .ensures))
 
 fits : tie.Need-add-store
-fits c = let k = c .before .before .before in let a = allows (k .pre) .allowed in omega arith
+fits c = let k = c .before .before .before in omega (arith, k .pre .sound .good .semaphores (k .args .n) (allows (k .pre) .allowed .0 .0) .fits)
 
 is-there : tie.Need-store-requires
 is-there c κs = let k = c .before .before .before in (kept (k .pre .sound), allows (k .pre) .allowed .0 .0)

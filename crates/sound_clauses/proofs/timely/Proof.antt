@@ -23,6 +23,7 @@ timely-spec =
     (λ c. search needs)
     (λ c. search needs)
     (λ c. search needs)
+    (λ c. search needs)
     nrt
     free
     hard)

@@ -4,7 +4,7 @@ use mathlib.Core.Bool.{true}
 use mathlib.Core.Logic.{_↔_}
 use native.Mathlib.Omega.{arith}
 use lib.ListN.{length}
-use mir.Syntax.{w8}
+use mir.Syntax.{w64}
 use mir.Val.{toZ, ofZ}
 use borrow.Author.Needs.{needs}
 use Rattle.laws_chain.specs.Chain.{target}
@@ -18,7 +18,7 @@ use Rattle.soundness.proofs.chained.Statement.{statement}
 use Rattle.soundness.proofs.chained.Tie as tie
 
 abbrev Inv-loop : tie.InvT-loop
-Inv-loop q s back₀ now₀ left₀ back now left = Walks.Testing s left (toZ w8 back) (toZ w8 now) (Linked s q)
+Inv-loop q s back₀ now₀ left₀ back now left = Walks.Testing s left (toZ w64 back) (toZ w64 now) (Linked s q)
 
 abbrev μ-loop : tie.MeasureT-loop
 μ-loop q s back₀ now₀ left₀ back now left = left
@@ -30,7 +30,7 @@ begins : tie.Need-loop-holds Inv-loop μ-loop
 begins c =
     let k = c .before .before in
     let head = head-of (k .args .t1 .heads) (k .args .q) in
-    let bits : toZ w8 (ofZ w8 head) ≡ head = search needs in
+    let bits : toZ w64 (ofZ w64 head) ≡ head = search needs in
     rw bits (Walks.test-begins (k .args .t1) (k .args .q) (long k) (k .pre))
 
 no-task : tie.Need-returns Inv-loop μ-loop
@@ -47,10 +47,10 @@ module _ (c : tie.After-same2 Inv-loop μ-loop) where
   abbrev s : State
   s = x .before .before .before .before .before .args .t1
 
-  bits : toZ w8 (ofZ w8 (previous-of (s .tasks) (x .target .result))) ≡ previous-of (s .tasks) (x .target .result)
+  bits : toZ w64 (ofZ w64 (previous-of (s .tasks) (x .target .result))) ≡ previous-of (s .tasks) (x .target .result)
   bits = search needs
 
-  compared : (c .same2 .result ≡ true) ↔ (previous-of (s .tasks) (x .target .result) ≡ toZ w8 (x .before .before .loop .back))
+  compared : (c .same2 .result ≡ true) ↔ (previous-of (s .tasks) (x .target .result) ≡ toZ w64 (x .before .before .loop .back))
   compared = rw bits at (c .same2 .ensures)
 
 not-mutual : tie.Need-returns-2 Inv-loop μ-loop
@@ -62,7 +62,7 @@ goes : tie.Need-loop-again Inv-loop μ-loop
 goes c =
     let k = c .before .before in
     let next = next-of (s k .tasks) (x k .target .result) in
-    let next-bits : toZ w8 (ofZ w8 next) ≡ next = search needs in
+    let next-bits : toZ w64 (ofZ w64 next) ≡ next = search needs in
     rw next-bits
     (Walks.links-step (x k .before .before .loop .inv) (x k .target .ensures) (x k .before .loop-test .taken) (k .before .before .before .if1 .left) (passed (compared k) (c .before .if2 .left)))
 
@@ -77,6 +77,7 @@ chained-spec =
     (tie.spec
     Inv-loop
     μ-loop
+    (λ c. search needs)
     (λ c. search needs)
     begins
     (λ c κs. search needs)

@@ -2,7 +2,7 @@
 use mathlib.Core.Path.{_≡_}
 use mathlib.Core.Bool.{true}
 use mathlib.Core.Logic.{_↔_}
-use mir.Syntax.{w8}
+use mir.Syntax.{w64}
 use mir.Val.{toZ, ofZ}
 use borrow.Author.Needs.{needs}
 use Rattle.laws_chain.specs.Chain.{end}
@@ -16,11 +16,11 @@ next-read : (c : tie.After-same) → (let k = c .before .before .before .before 
 next-read c =
     let k = c .before .before .before .before in
     let next = next-of (k .args .t1 .tasks) (k .args .x) in
-    let bits : toZ w8 (ofZ w8 next) ≡ next = search needs in
+    let bits : toZ w64 (ofZ w64 next) ≡ next = search needs in
     rw bits at (c .same .ensures)
 
 previous-bits : (c : tie.After-same) → (let k = c .before .before .before .before in
-    let previous = previous-of (k .args .t1 .tasks) (k .args .x) in toZ w8 (ofZ w8 previous) ≡ previous)
+    let previous = previous-of (k .args .t1 .tasks) (k .args .x) in toZ w64 (ofZ w64 previous) ≡ previous)
 previous-bits c = search needs
 
 linked-on : tie.Need-returns

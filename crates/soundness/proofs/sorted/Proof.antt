@@ -1,7 +1,7 @@
 -- The walk through a queue tests each status, and each deadline against the one before it. Assumes nothing.
 use mathlib.Core.Path.{_≡_, sym, _∙_}
 use lib.ListN.{length}
-use mir.Syntax.{w8}
+use mir.Syntax.{w64}
 use mir.Val.{toZ, ofZ}
 use borrow.Author.Needs.{needs}
 use Rattle.kernel.specs.Status.{queue-count}
@@ -25,7 +25,7 @@ begins : tie.Need-loop-holds Inv-loop μ-loop
 begins c =
     let k = c .before .before .before in
     let head = head-of (k .args .t1 .heads) (k .args .q) in
-    let bits : toZ w8 (ofZ w8 head) ≡ head = search needs in
+    let bits : toZ w64 (ofZ w64 head) ≡ head = search needs in
     rw (c .target .ensures, bits) (Walks.order-begins (k .args .t1) (k .args .q) (long k) (k .pre .0) (k .pre .1))
 
 misplaced : tie.Need-returns Inv-loop μ-loop
@@ -40,7 +40,7 @@ too-early c =
 
 -- The next link is what its bits say.
 bits : (c : tie.After-target2 Inv-loop μ-loop) → (let w = c .before .before .before .before .before .before .before in
-    let next = next-of (w .before .before .before .before .args .t1 .tasks) (w .loop .x) in toZ w8 (ofZ w8 next) ≡ next)
+    let next = next-of (w .before .before .before .before .args .t1 .tasks) (w .loop .x) in toZ w64 (ofZ w64 next) ≡ next)
 bits c = search needs
 
 falls : tie.Need-loop-less Inv-loop μ-loop
@@ -64,6 +64,7 @@ sorted-spec =
     (tie.spec
     Inv-loop
     μ-loop
+    (λ c. search needs)
     (λ c. search needs)
     (λ c κs. search needs)
     begins

@@ -1,7 +1,7 @@
 -- The walk through a queue meets a task exactly if it stands there. Assumes nothing.
 use mathlib.Core.Path.{_≡_}
 use lib.ListN.{length}
-use mir.Syntax.{w8}
+use mir.Syntax.{w64}
 use mir.Val.{toZ, ofZ}
 use borrow.Author.Needs.{needs}
 use Rattle.laws_chain.specs.Lists.{Among}
@@ -26,7 +26,7 @@ begins : tie.Need-loop-holds Inv-loop μ-loop
 begins c =
     let k = c .before .before .before in
     let head = head-of (k .args .t1 .heads) (k .args .q) in
-    let bits : toZ w8 (ofZ w8 head) ≡ head = search needs in
+    let bits : toZ w64 (ofZ w64 head) ≡ head = search needs in
     rw (c .target .ensures, bits) (Walks.begins (k .args .t1) (k .args .q) (long k) (k .pre .0) (Among (k .args .x)) (k .pre .1))
 
 met : tie.Need-returns Inv-loop μ-loop
@@ -34,7 +34,7 @@ met c = yes (Walks.found (c .before .before .loop .inv) (c .before .loop-test .t
 
 -- The next link is what its bits say.
 bits : (c : tie.After-target2 Inv-loop μ-loop) → (let w = c .before .before .before .before .before in
-    let next = next-of (w .before .before .before .before .args .t1 .tasks) (w .loop .y) in toZ w8 (ofZ w8 next) ≡ next)
+    let next = next-of (w .before .before .before .before .args .t1 .tasks) (w .loop .y) in toZ w64 (ofZ w64 next) ≡ next)
 bits c = search needs
 
 falls : tie.Need-loop-less Inv-loop μ-loop
@@ -56,6 +56,7 @@ stands-spec =
     (tie.spec
     Inv-loop
     μ-loop
+    (λ c. search needs)
     (λ c. search needs)
     (λ c κs. search needs)
     begins

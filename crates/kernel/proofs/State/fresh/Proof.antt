@@ -10,4 +10,4 @@ unfolding fresh-state
 returns c = refl
 
 pub fresh-spec : {M : Type 1} → statement M
-fresh-spec = tie.close (tie.spec (λ c. search needs) (λ c. search needs) (λ c. search needs) returns)
+fresh-spec = tie.close (tie.spec (λ c. search needs) (λ c. search needs) returns)
