@@ -133,6 +133,59 @@ impl State {
     pub const WHOLE: u32 = 1000000;
 }
 
+// Where the words of a state stand, and how many there are: docs/LAYOUT.md.
+impl State {
+    pub const CLOCK_AT: usize = 0;
+
+    pub const STOP_AT: usize = 1;
+
+    pub const RUNNING_AT: usize = 2;
+
+    pub const TOTAL_AT: usize = 3;
+
+    pub const HEADS_AT: usize = 4;
+
+    pub const SEMAPHORES_AT: usize = State::HEADS_AT + State::QUEUES;
+
+    pub const TASKS_AT: usize = State::SEMAPHORES_AT + State::SEMAPHORES;
+
+    pub const SESSIONS_AT: usize = State::TASKS_AT + Task::WORDS * State::TASKS;
+
+    pub const CHANNELS_AT: usize = State::SESSIONS_AT + State::SESSIONS;
+
+    pub const WORDS: usize = State::CHANNELS_AT + Channel::WORDS * State::CHANNELS;
+}
+
+// The words of a task's record; those from SPARE on are 0.
+impl Task {
+    pub const PERIOD: usize = 0;
+
+    pub const AMOUNT: usize = 1;
+
+    pub const STATUS: usize = 2;
+
+    pub const DEADLINE: usize = 3;
+
+    pub const NEXT: usize = 4;
+
+    pub const PREVIOUS: usize = 5;
+
+    pub const SPARE: usize = 6;
+
+    pub const WORDS: usize = 8;
+}
+
+// The words of a channel's record.
+impl Channel {
+    pub const SIZE: usize = 0;
+
+    pub const BUFFERS: usize = 1;
+
+    pub const LATEST: usize = 2;
+
+    pub const WORDS: usize = 3;
+}
+
 // Refusal numbers.
 impl State {
     pub const TIME_OVERFLOW: i64 = -1;

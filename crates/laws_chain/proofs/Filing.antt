@@ -118,7 +118,7 @@ module _ {n m : ℕ} {standing deadline place′ : ℕ → ℕ} {next previous h
     (f : Filed n m standing next previous head queue) (k : (q : ℕ) → q < m → Queue n standing deadline q (queue q)) (li : i < n)
     (places : (x : ℕ) → (x ≡ i → ⊥) → place′ x ≡ standing x) where
   -- Task i goes out of its queue.
-  pub left : standing i < m → m ≤ place′ i → Written n i (standing i) (previous i) (next i) (next i) (previous i) end end next previous head next′ previous′ head′
+  pub left : standing i < m → m ≤ place′ i → Written n m i (standing i) (previous i) (next i) (next i) (previous i) end end next previous head next′ previous′ head′
       → Filed n m place′ next′ previous′ head′ (λ q. remove i (queue q))
   left lp l w =
       let xs = queue (standing i) in
@@ -127,13 +127,13 @@ module _ {n m : ℕ} {standing deadline place′ : ℕ → ℕ} {next previous h
       let b = neighbours g (f .linked (standing i) lp) in
       let o : All (λ (x : ℕ). (standing x ≡ standing i) × (standing i < m)) (g .front ++ i ∷ g .back) = rw (g .more) at (its m kp lp) in
       refiled f i (standing i) (λ q lq. its m (k q lq) lq) places
-      (λ q lq ne. let a = absent i (k q lq) (λ e. ne (sym e)) in (w .heads-kept q ne, remove-absent i (queue q) a, a))
+      (λ q lq ne. let a = absent i (k q lq) (λ e. ne (sym e)) in (w .heads-kept q lq ne, remove-absent i (queue q) a, a))
       (λ h. (w .next-is, w .previous-is)) (g .front) (g .back) (b .0) (b .1) (w .sides)
       (all-left _ (g .front) (i ∷ g .back) o) (all-right _ (g .front) (i ∷ g .back) o .1) (λ h. gone g (w .sides) (w .head-is) (f .linked (standing i) lp))
 
   -- Task i, which stands in no queue, comes into one.
   pub joined : (passes : ℕ → Bool) {before after : ℤ} {queue′ : ℕ → List ℕ} → m ≤ standing i → place′ i < m → Gap passes (queue (place′ i)) before after
-      → Written n i (place′ i) before after (pos i) (pos i) after before next previous head next′ previous′ head′
+      → Written n m i (place′ i) before after (pos i) (pos i) after before next previous head next′ previous′ head′
       → queue′ (place′ i) ≡ insert passes i (queue (place′ i)) → ((q : ℕ) → q < m → (q ≡ place′ i → ⊥) → queue′ q ≡ queue q)
       → Filed n m place′ next′ previous′ head′ queue′
   joined passes free lp gap w here there =
@@ -142,15 +142,15 @@ module _ {n m : ℕ} {standing deadline place′ : ℕ → ℕ} {next previous h
       let g = inserted passes i xs in
       let a : (q : ℕ) → q < m → Absent i (queue q) = λ q lq. absent i (k q lq) (λ e. omega arith) in
       let o : All (λ (x : ℕ). (standing x ≡ place′ i) × (place′ i < m)) (g .front ++ g .back) = rw (g .less) at (its m kp lp) in
-      refiled f i (place′ i) (λ q lq. its m (k q lq) lq) places (λ q lq ne. (w .heads-kept q ne, there q lq ne, a q lq)) (λ h. absurd (omega arith))
+      refiled f i (place′ i) (λ q lq. its m (k q lq) lq) places (λ q lq ne. (w .heads-kept q lq ne, there q lq ne, a q lq)) (λ h. absurd (omega arith))
       (g .front) (g .back) (gap .before-is) (gap .after-is) (w .sides) (all-left _ (g .front) (g .back) o) (all-right _ (g .front) (g .back) o)
       (λ h. rw here (come g (gap .before-is) (gap .after-is) li (a (place′ i) lp) (w .sides) (w .next-is) (w .previous-is) (w .head-is) (f .linked (place′ i) lp)))
 
   -- Task i stands in no queue, and stays in none.
   pub stored : {queue′ : ℕ → List ℕ} → m ≤ standing i → m ≤ place′ i → ((x : ℕ) → (x ≡ i → ⊥) → (next′ x ≡ next x) × (previous′ x ≡ previous x)) → next′ i ≡ end → previous′ i ≡ end
-      → ((q : ℕ) → head′ q ≡ head q) → ((q : ℕ) → q < m → queue′ q ≡ queue q) → Filed n m place′ next′ previous′ head′ queue′
+      → ((q : ℕ) → q < m → head′ q ≡ head q) → ((q : ℕ) → q < m → queue′ q ≡ queue q) → Filed n m place′ next′ previous′ head′ queue′
   stored free l same en ep hs there =
-      refiled f i m (λ q lq. its m (k q lq) lq) places (λ q lq ne. (hs q, there q lq, absent i (k q lq) (λ e. omega arith))) (λ h. (en, ep)) {v = end} {w = end} [] [] refl refl
+      refiled f i m (λ q lq. its m (k q lq) lq) places (λ q lq ne. (hs q lq, there q lq, absent i (k q lq) (λ e. omega arith))) (λ h. (en, ep)) {v = end} {w = end} [] [] refl refl
       (record {
         next-turned = λ x h ne e. absurd (no-task x e);
         next-kept = λ x ne e. same x ne .0;

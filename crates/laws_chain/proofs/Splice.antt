@@ -25,12 +25,12 @@ abbrev pub new-head : ℕ → ℤ → ℤ → ℤ → ℤ
 new-head n before head v = cond (ltb (target n before) n) head v
 
 -- All that is written where task i comes into queue p or goes out of it: the links on both sides, its own, and the head.
-pub record Written (n i p : ℕ) (before after v w own-next own-previous : ℤ) (next previous head next′ previous′ head′ : ℕ → ℤ) : Type 0 where
+pub record Written (n m i p : ℕ) (before after v w own-next own-previous : ℤ) (next previous head next′ previous′ head′ : ℕ → ℤ) : Type 0 where
   pub sides : Relinked n i before after v w next previous next′ previous′
   pub next-is : next′ i ≡ own-next
   pub previous-is : previous′ i ≡ own-previous
   pub head-is : head′ p ≡ new-head n before (head p) v
-  pub heads-kept : (q : ℕ) → (q ≡ p → ⊥) → head′ q ≡ head q
+  pub heads-kept : (q : ℕ) → q < m → (q ≡ p → ⊥) → head′ q ≡ head q
 
 -- ---- neighbours
 

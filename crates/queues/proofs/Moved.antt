@@ -82,7 +82,7 @@ module _ {s : State} {i : ℕ} (h : MovableIn s i) where
     in-none l =
         stored (o .filed) (Moves.out-queues m) (h .is-task) places (loose-here queue-count i (standing (seen s))) (rw (Moves.moved-place m b) l)
         (λ x ne. (next-besides (t .tasks) i (clothed end end) x ne, previous-besides (t .tasks) i (clothed end end) x ne))
-        (ap (λ (c : Task). c .next) (own end end)) (ap (λ (c : Task). c .previous) (own end end)) (λ p. refl)
+        (ap (λ (c : Task). c .next) (own end end)) (ap (λ (c : Task). c .previous) (own end end)) (λ p lp. refl)
         (λ p lp. Moves.kept-queue m b p lp (λ e. omega arith))
 
     in-one : (before after : ℤ) → q < queue-count → Sides t q (b .deadline) before after → LinksHold (relinked (stored-with after before) q before after (pos i) (pos i)) (standing k) (queue k)
@@ -108,7 +108,7 @@ module _ {s : State} {i : ℕ} (h : MovableIn s i) where
           next-is = kept .0 ∙ ap (λ (c : Task). c .next) (own after before);
           previous-is = kept .1 ∙ ap (λ (c : Task). c .previous) (own after before);
           head-is = rw stands (relinked-head u q before after (pos i) (pos i) (let z = o .heads in omega arith));
-          heads-kept = λ p ne. other-heads u q before after (pos i) (pos i) p (λ z. ne (z ∙ sym stands));
+          heads-kept = λ p lp ne. other-heads u q before after (pos i) (pos i) p (λ z. ne (z ∙ sym stands));
         })
         (rw stands (Moves.moved-queue m b l)) (λ p lp ne. Moves.kept-queue m b p lp (λ z. ne (z ∙ sym stands)))
 

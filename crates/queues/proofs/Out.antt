@@ -91,7 +91,7 @@ module _ {s : State} {i : ℕ} (m : MovableIn s i) where
               next-is = ap (λ (c : Task). c .next) w;
               previous-is = ap (λ (c : Task). c .previous) w;
               head-is = rw stood (relinked-head s p (a .previous) (a .next) (a .next) (a .previous) (let h = m .heads in omega arith));
-              heads-kept = λ q ne. other-heads s p (a .previous) (a .next) (a .next) (a .previous) q (λ z. ne (z ∙ sym stood));
+              heads-kept = λ q lq ne. other-heads s p (a .previous) (a .next) (a .next) (a .previous) q (λ z. ne (z ∙ sym stood));
             });
         records =
             records-with (t .tasks) i b ∙ ap (λ (l : List Bare). set l i (bare a)) e ∙ ap (set (map bare (s .tasks)) i) (sym (task-seen s i))
@@ -106,7 +106,7 @@ module _ {s : State} {i : ℕ} (m : MovableIn s i) where
       record {
         filed =
             stored (m .kept .filed) (m .kept .queues) (m .is-task) (loose-there queue-count i (standing (seen s))) free (loose-here queue-count i (standing (seen s))) (λ x ne. (refl, refl))
-            (m .kept .filed .alone-next i (m .is-task) free) (m .kept .filed .alone-previous i (m .is-task) free) (λ q. refl)
+            (m .kept .filed .alone-next i (m .is-task) free) (m .kept .filed .alone-previous i (m .is-task) free) (λ q lq. refl)
             (λ q lq. remove-absent i (queue (seen s) q) (absent i (m .kept .queues q lq) (λ e. omega arith)));
         records = refl;
         heads = m .heads;

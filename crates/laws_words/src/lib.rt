@@ -1,0 +1,1 @@
+// Words and kernels: which words a kernel has. Laws in proofs/; no function.

@@ -1,0 +1,2 @@
+-- The fresh kernel is seen in its words.
+pub mod FreshWords

@@ -1,0 +1,2 @@
+-- The words of the fresh kernel.
+pub mod Fresh

@@ -1,0 +1,24 @@
+-- A task goes out of its queue, if it is in one. Assumes nothing.
+use borrow.Author.Needs.{needs}
+use borrow.Author.Tests.{lt-ltb, le-ltb}
+use Rattle.words_queues.specs.Links.{taken-out}
+use Rattle.words_queues.proofs.take_out.Statement.{statement}
+use Rattle.words_queues.proofs.take_out.Tie as tie
+
+out : tie.Need-returns
+unfolding taken-out
+out c =
+    let r = c .before .before in
+    let n = r .before .before in
+    let p = n .before .before in
+    let t = p .before .before in
+    let q = t .before .queue .ensures in
+    rw (lt-ltb _ _ (rw q at (t .if1 .taken)), c .set-links .ensures, r .relink .ensures, n .next .ensures, p .previous .ensures, q)
+
+none : tie.Need-returns-2
+unfolding taken-out
+none c = rw (le-ltb _ _ (rw (c .before .queue .ensures) at (c .if1 .left)))
+
+pub take-out-spec : {M : Type 1} → statement M
+take-out-spec =
+    tie.close (tie.spec (λ c κs. search needs) (λ c κs. search needs) (λ c κs. search needs) (λ c κs. search needs) (λ c κs. search needs) out none)
