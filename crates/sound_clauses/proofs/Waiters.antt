@@ -5,22 +5,18 @@ use mathlib.Core.Logic.{_↔_}
 use Prim.Native.Nat.{ℕ, _≤_, _<_}
 use native.Mathlib.Omega.{arith}
 use Rattle.kernel.specs.declared.Semaphore.{Semaphore}
-use Rattle.kernel.specs.declared.State.{State}
-use Rattle.kernel.specs.Sizes.{task-count}
-use Rattle.kernel.specs.Kernel.{queue}
-use Rattle.kernel.specs.Seen.{seen}
 use Rattle.kernel.specs.Good.{Counted}
-use Rattle.queues.specs.First.{First}
 
 some-not-none : {l xs : List ℕ} {x : ℕ} → l ≡ x ∷ xs → l ≡ [] → ⊥
 some-not-none some none = let z : _≡_ {A = ℕ} 0 1 = cc in omega arith
 
--- The first of no tasks is no task's number.
-first-of-none : {s : State} {q x : ℕ} → First s q x → queue (seen s) q ≡ [] → task-count ≤ x
-first-of-none {s} {q} {x} f e = let none : x < task-count → ⊥ = λ l. some-not-none (f .some l) e in omega arith
+-- Of n tasks x is the first of the list l; where it has none, x is no task's number.
+module _ {l xs : List ℕ} {n x : ℕ} (some : x < n → l ≡ x ∷ xs) (none : n ≤ x → l ≡ []) where
+  first-of-none : l ≡ [] → n ≤ x
+  first-of-none e = let past : x < n → ⊥ = λ h. some-not-none (some h) e in omega arith
 
-pub counted : {s : State} {q x : ℕ} {a : Semaphore} → First s q x → Counted a (task-count ≤ x) ↔ Counted a (queue (seen s) q ≡ [])
-counted f = (
-  λ g. record { fits = g .fits; counting = λ l. f .none (g .counting l); unused-count = g .unused-count; unused-waiters = λ e. f .none (g .unused-waiters e) },
-  λ g. record { fits = g .fits; counting = λ l. first-of-none f (g .counting l); unused-count = g .unused-count; unused-waiters = λ e. first-of-none f (g .unused-waiters e) },
-)
+  pub counted : {a : Semaphore} → Counted a (n ≤ x) ↔ Counted a (l ≡ [])
+  counted = (
+    λ g. record { fits = g .fits; counting = λ h. none (g .counting h); unused-count = g .unused-count; unused-waiters = λ e. none (g .unused-waiters e) },
+    λ g. record { fits = g .fits; counting = λ h. first-of-none (g .counting h); unused-count = g .unused-count; unused-waiters = λ e. first-of-none (g .unused-waiters e) },
+  )

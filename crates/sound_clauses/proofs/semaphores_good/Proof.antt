@@ -25,7 +25,7 @@ abbrev μ-loop : tie.MeasureT-loop
 tested
     : (c : tie.After-semaphore-good Inv-loop μ-loop)
     → (c .semaphore-good .result ≡ true) ↔ GoodSemaphore (seen (c .before .before .before .before .before .before .args .s)) (c .before .before .before .before .loop .n)
-tested c = let waiters = counted (c .before .first .ensures) in means (c .semaphore-good .ensures) (waiters .0) (waiters .1)
+tested c = let waiters = counted (c .before .first .ensures .some) (c .before .first .ensures .none) in means (c .semaphore-good .ensures) (waiters .0) (waiters .1)
 
 bad : tie.Need-returns Inv-loop μ-loop
 bad c = one-fails (c .before .before .before .before .loop-test .taken) (refused (tested (c .before)) (c .if1 .taken))

@@ -7,11 +7,10 @@ use borrow.Author.Needs.{needs}
 use Rattle.kernel.specs.Sizes.{task-count, whole}
 use Rattle.kernel.specs.Kernel.{task}
 use Rattle.kernel.specs.Seen.{bare, seen}
-use Rattle.kernel.specs.Good.{counted-share, shares}
+use Rattle.kernel.specs.Good.{counted-share}
 use Rattle.kernel.proofs.Seen.{held-length, task-seen}
 use Rattle.sound_clauses.specs.Task.{HardFits}
-use Rattle.kernel.proofs.Decided.{no, at-most, means}
-use Rattle.sound_clauses.proofs.Sum.{hard-fits, counted-most, SummedTo, one-more, summed}
+use Rattle.sound_clauses.proofs.Sum.{hard-fits, counted-most, SummedTo, one-more, unequal, equal}
 use Rattle.sound_clauses.proofs.shares_good.Statement.{statement}
 use Rattle.sound_clauses.proofs.shares_good.Tie as tie
 
@@ -49,26 +48,19 @@ again c =
     let l = c .before .before .loop-test .taken in
     (omega arith, rw (adds c) (one-more (seen (start .args .t1) .tasks) (loop .x) (loop .total) (omega arith) (loop .inv .1)), omega (arith, most c))
 
--- After the loop the total is the sum.
-sum : (c : tie.After-loop Inv-loop μ-loop) → c .before .loop .total ≡ shares (seen (c .before .before .args .t1) .tasks)
-sum c =
-    let start = c .before .before in
-    let loop = c .before .loop in
+other : tie.Need-returns Inv-loop μ-loop
+other c =
+    let start = c .before .before .before in
+    let loop = c .before .before .loop in
     let n = long start in
-    let l = c .loop-test .left in
-    summed (seen (start .args .t1) .tasks) (loop .x) (loop .total) (omega arith) (loop .inv .1)
+    unequal (seen (start .args .t1)) (loop .x) (loop .total) (omega arith) (loop .inv .1) (λ e. omega arith)
 
-unequal : tie.Need-returns Inv-loop μ-loop
-unequal c =
-    let e = sum (c .before) in
-    let unlike = c .if1 .taken in
-    no (λ g. let h = g .total-is in omega arith)
-
-equal : tie.Need-returns-2 Inv-loop μ-loop
-equal c =
-    let e = sum (c .before) in
-    let like = c .if1 .left in
-    means (at-most _ _) (λ l. record { total-is = omega arith; total-fits = l }) (λ g. g .total-fits)
+same : tie.Need-returns-2 Inv-loop μ-loop
+same c =
+    let start = c .before .before .before in
+    let loop = c .before .before .loop in
+    let n = long start in
+    equal (seen (start .args .t1)) (loop .x) (loop .total) (omega arith) (loop .inv .1) (omega arith)
 
 pub shares-good-spec : {M : Type 1} → statement M
 shares-good-spec =
@@ -85,6 +77,6 @@ shares-good-spec =
     (λ c. omega arith)
     again
     (λ c. search needs)
-    unequal
+    other
     (λ c. search needs)
-    equal)
+    same)
