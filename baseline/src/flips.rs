@@ -1,11 +1,34 @@
-//! States as words on standard input: each is judged, and with it all states that differ in one bit of one word.
+//! States as words on standard input: each is judged, and with it all states that differ in one bit of one word. Of those the sound ones are called.
 
+use crate::calls::Call;
+use crate::check::{folded, of_answer};
+use crate::kernel::Kernel;
+use crate::script::number;
 use crate::sound::sound;
-use crate::words::{seen, Words, WORDS};
+use crate::words::{seen, shown, Words, WORDS};
 use std::io::{self, Read, Write};
 
 /// Each word is four bytes, highest first.
 const WORD_BYTES: usize = 4;
+
+/// How many states are one bit away from one.
+const NEIGHBOURS: usize = WORDS * u32::BITS as usize;
+
+/// What is made on each sound neighbour, each on a copy of its own.
+const CALLS: [Call; 12] = [
+    Call::Tick,
+    Call::Hard(4, 1),
+    Call::Nrt(3),
+    Call::Activate(3),
+    Call::Sleep,
+    Call::Cycle,
+    Call::End,
+    Call::Kill(2),
+    Call::NewSemaphore(5),
+    Call::Delete(1),
+    Call::Wait(0),
+    Call::Signal(0),
+];
 
 pub fn run(mut input: impl Read, mut output: impl Write) -> io::Result<()> {
     let mut bytes = Vec::new();
@@ -16,11 +39,15 @@ pub fn run(mut input: impl Read, mut output: impl Write) -> io::Result<()> {
     }
     for (number, state) in states.enumerate() {
         let mut words = read(state);
-        let verdict = if judged(&words) { "sound" } else { "not sound" };
-        let away = one_bit_away(&mut words);
+        let verdict = match judged(&words) {
+            Some(_) => "sound",
+            None => "not sound",
+        };
+        let Found { sound, check } = one_bit_away(&mut words);
+        let refused = NEIGHBOURS - sound;
         writeln!(
             output,
-            "state {number}: {verdict}, one bit away {away} sound"
+            "state {number}: {verdict}, one bit away {sound} sound, {refused} answered -11, the others {check}"
         )?;
     }
     output.flush()
@@ -35,20 +62,42 @@ fn read(state: &[u8]) -> Words {
     words
 }
 
-/// Whether words are sound; they may be any.
-fn judged(words: &Words) -> bool {
-    seen(words).is_some_and(|kernel| sound(&kernel))
+/// The kernel that is seen in words, if they are sound; they may be any.
+fn judged(words: &Words) -> Option<Kernel> {
+    seen(words).filter(sound)
 }
 
-/// How many of the states one bit away are sound. Each bit is put back.
-fn one_bit_away(words: &mut Words) -> usize {
-    let mut found = 0;
+/// Of the states one bit away, how many are sound, and a check number of what the calls give on them.
+struct Found {
+    sound: usize,
+    check: u64,
+}
+
+/// Each bit is put back.
+fn one_bit_away(words: &mut Words) -> Found {
+    let mut found = Found { sound: 0, check: 0 };
     for place in 0..WORDS {
         for bit in 0..u32::BITS {
             words[place] ^= 1 << bit;
-            found += usize::from(judged(words));
+            if let Some(kernel) = judged(words) {
+                found.sound += 1;
+                found.check = called(&kernel, found.check);
+            }
             words[place] ^= 1 << bit;
         }
     }
     found
+}
+
+/// The calls, each from this kernel: the answer, and all words of the state behind it.
+fn called(kernel: &Kernel, check: u64) -> u64 {
+    CALLS.iter().fold(check, |check, call| {
+        let mut kernel = kernel.clone();
+        let answer = number(call.make(&mut kernel));
+        shown(&kernel)
+            .iter()
+            .fold(folded(check, of_answer(answer)), |check, &word| {
+                folded(check, u64::from(word))
+            })
+    })
 }

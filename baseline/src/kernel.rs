@@ -1,5 +1,5 @@
 //! The kernel of document 01, in plain Rust: its sizes, its refusals, its state and the fresh kernel. The calls are in the folder beside this file.
-//! No call tests its state: a `Kernel` that is called comes from `Kernel::fresh` and calls, and nothing else.
+//! No call tests its state: a `Kernel` that is called comes from `Kernel::fresh` and calls, or was found sound (`sound.rs`).
 
 mod channels;
 mod questions;

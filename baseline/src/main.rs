@@ -3,10 +3,10 @@
 mod alone;
 mod calls;
 mod cases;
+mod check;
 mod cost;
 mod flips;
 mod full;
-mod inner;
 mod interleaved;
 mod kernel;
 mod lines;
@@ -28,14 +28,13 @@ use std::process::ExitCode;
 
 const USAGE: &str = "usage: baseline                          the script program, on standard input
        baseline packed RUNS              a script's calls alone, timed
-       baseline inner                    activate and sleep without refusal rows, timed
        baseline verdict                  the soundness test, timed
        baseline make KIND LINES SEED     a script: mixed, ticks, refused or odd
        baseline cost PROGRAM ..          runs a program, and says its CPU time in nanoseconds on standard error
        baseline cases                    a file of cases on standard input, as the test programs print it
        baseline interleaved              what test_interleaved prints
        baseline words                    states as their words, in binary
-       baseline flips                    such states on standard input: which are sound, and how many one bit away";
+       baseline flips                    such states on standard input: which are sound, how many one bit away, and what the calls give on those";
 
 fn main() -> ExitCode {
     let arguments: Vec<String> = std::env::args().skip(1).collect();
@@ -59,10 +58,6 @@ fn mode(words: &[&str]) -> Option<io::Result<()>> {
     Some(match words {
         [] => output().and_then(|output| script::run(input, output)),
         ["packed", runs] => packed::run(input, runs.parse().ok()?),
-        ["inner"] => {
-            inner::run();
-            Ok(())
-        }
         ["verdict"] => {
             verdict::run();
             Ok(())

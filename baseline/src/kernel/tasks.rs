@@ -61,32 +61,20 @@ impl Kernel {
         if self.tasks[task].status != Status::Sleep {
             return Err(Refusal::WrongStatus);
         }
-        self.activated(task);
-        Ok(0)
-    }
-
-    /// What activate does, where nothing refuses it.
-    #[inline]
-    pub fn activated(&mut self, task: usize) {
         if let Class::Hard { period, .. } = self.tasks[task].class {
             self.tasks[task].deadline = self.clock + period;
         }
         self.join(task, Status::Ready);
         self.schedule();
+        Ok(0)
     }
 
     pub fn sleep(&mut self) -> Answer {
         self.going()?;
         self.not_main()?;
-        self.asleep();
-        Ok(0)
-    }
-
-    /// What sleep does, where nothing refuses it.
-    #[inline]
-    pub fn asleep(&mut self) {
         self.join(self.running, Status::Sleep);
         self.dispatch();
+        Ok(0)
     }
 
     pub fn cycle(&mut self) -> Answer {

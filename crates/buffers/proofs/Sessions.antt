@@ -1,44 +1,34 @@
--- Whether one of n tasks has a session of a kind, sought among the tasks from the first on. Assumes nothing.
-use mathlib.Core.Path.{_≡_, refl}
+-- Whether one of the tasks has a session that holds a buffer, sought from the first on. Assumes nothing.
+use mathlib.Core.Path.{_≡_, refl, ap, sym, _∙_}
 use mathlib.Core.Bool.{Bool, true, false, _||_, or-true}
+use mathlib.Core.List.{List}
 use Prim.Native.Nat.{ℕ, zero, suc, _+_, _≤_, _<_}
 use native.Mathlib.Omega.{arith}
 use native.Mathlib.Numerals.{add-one}
 use native.Mathlib.Decide.{decLt}
+use borrow.Author.Needs.{needs}
 use Rattle.kernel.specs.declared.Session.{Session}
-use Rattle.kernel.specs.Kernel.{Kernel, session}
-use Rattle.kernel.specs.Channels.{some-session}
+use Rattle.kernel.specs.Sizes.{task-count, channel-count}
+use Rattle.kernel.specs.Kernel.{Kernel, session, slot-number}
+use Rattle.kernel.specs.Channels.{reads, writes, some-session}
+use Rattle.kernel.specs.Seen.{slot-in, seen}
+use Rattle.words.proofs.Seen.{session-seen}
 
--- None of the first t of n tasks has such a session on channel c.
-pub record NoneYet (n : ℕ) (p : Session → Bool) (k : Kernel) (c t : ℕ) : Type 0 where
-  pub within : t ≤ n
-  pub none : some-session p t k c ≡ false
-
-pub begins : {n : ℕ} {p : Session → Bool} {k : Kernel} {c : ℕ} → NoneYet n p k c 0
-unfolding some-session
-begins = record { within = omega arith; none = refl }
-
-module _ {n : ℕ} {p : Session → Bool} {k : Kernel} {c t : ℕ} (so-far : NoneYet n p k c t) where
-  pub goes-on : t < n → p (session k c t) ≡ false → NoneYet n p k c (t + 1)
-  unfolding some-session
-  goes-on l e = record { within = omega arith; none = rw (add-one t, e) (so-far .none) }
-
-  pub ends : n ≤ t → some-session p n k c ≡ false
-  ends l = let all : n ≡ t = omega (arith, so-far .within) in rw all (so-far .none)
+abbrev holds : ℕ → Session → Bool
+holds b z = reads b z || writes b z
 
 -- One that has is enough.
-module _ (p : Session → Bool) (k : Kernel) (c t : ℕ) (has : p (session k c t) ≡ true) where
-  pub found : (n : ℕ) → t < n → some-session p n k c ≡ true
-  unfolding some-session
-  found zero l = absurd (omega arith)
-  found (suc n) l = go (decLt t n) (found n)
-    where
-      go : Dec (t < n) → (t < n → some-session p n k c ≡ true) → p (session k c n) || some-session p n k c ≡ true
-      go (yes h) earlier = rw (earlier h) (or-true (p (session k c n)))
-      go (no h) earlier = let last : n ≡ t = omega arith in rw (last, has) refl
+found : (p : Session → Bool) (k : Kernel) (c t : ℕ) → p (session k c t) ≡ true → (n : ℕ) → t < n → some-session p n k c ≡ true
+unfolding some-session
+found p k c t has zero l = absurd (omega arith)
+found p k c t has (suc n) l = go (decLt t n) (found p k c t has n)
+  where
+    go : Dec (t < n) → (t < n → some-session p n k c ≡ true) → p (session k c n) || some-session p n k c ≡ true
+    go (yes h) earlier = rw (earlier h) (or-true (p (session k c n)))
+    go (no h) earlier = let last : n ≡ t = omega arith in rw (last, has) refl
 
 -- One of two kinds, or of the other.
-pub either : (n : ℕ) (p q : Session → Bool) (k : Kernel) (c : ℕ) → some-session (λ z. p z || q z) n k c ≡ some-session p n k c || some-session q n k c
+either : (n : ℕ) (p q : Session → Bool) (k : Kernel) (c : ℕ) → some-session (λ z. p z || q z) n k c ≡ some-session p n k c || some-session q n k c
 unfolding some-session
 either zero p q k c = refl
 either (suc n) p q k c = rw (either n p q k c) (regroup (p (session k c n)) (q (session k c n)) (some-session p n k c) (some-session q n k c))
@@ -48,3 +38,31 @@ either (suc n) p q k c = rw (either n p q k c) (regroup (p (session k c n)) (q (
     regroup false true true y = refl
     regroup false true false y = refl
     regroup false false x y = refl
+
+-- Buffer b of channel c is held by none of the first t tasks.
+pub record NoneYet (w : List ℕ) (c b t : ℕ) : Type 0 where
+  pub within : t ≤ task-count
+  pub none : some-session (holds b) t (seen w) c ≡ false
+
+module _ {w : List ℕ} {c b : ℕ} where
+  pub begins : NoneYet w c b 0
+  unfolding some-session
+  begins = record { within = omega arith; none = refl }
+
+  module _ {t : ℕ} (so-far : NoneYet w c b t) where
+    pub ends : task-count ≤ t → false ≡ some-session (reads b) task-count (seen w) c || some-session (writes b) task-count (seen w) c
+    ends l = let all : t ≡ task-count = omega (arith, so-far .within) in sym (rw all at (so-far .none)) ∙ either task-count (reads b) (writes b) (seen w) c
+
+    -- The session that is tested is that of task t.
+    module _ {z : Session} {h : Bool} (lc : c < channel-count) (l : t < task-count) (is : z ≡ slot-in w (slot-number c t) .session) (test : h ≡ holds b z) where
+      tested : holds b (session (seen w) c t) ≡ h
+      tested = ap (holds b) (session-seen w c t lc l ∙ sym is) ∙ sym test
+
+      pub goes-on : h ≡ false → NoneYet w c b (t + 1)
+      unfolding some-session
+      goes-on e = record { within = omega arith; none = rw (add-one t, tested, e) (so-far .none) }
+
+      pub stops : h ≡ true → true ≡ some-session (reads b) task-count (seen w) c || some-session (writes b) task-count (seen w) c
+      stops e = sym (found (holds b) (seen w) c t (tested ∙ e) task-count l) ∙ either task-count (reads b) (writes b) (seen w) c
+
+pub ruleset sought = (needs, begins, ends, goes-on, stops)

@@ -2,7 +2,7 @@
 ghost use mathlib.Core.Path.{_≡_};
 ghost use mathlib.Core.Bool.{_||_};
 ghost use Prim.Native.Nat.{_<_};
-ghost use Rattle.kernel.specs.Sizes.{task-count, channel-count};
+ghost use Rattle.kernel.specs.Sizes.{task-count, channel-count, most-buffers};
 ghost use Rattle.kernel.specs.Channels as Channels;
 ghost use Rattle.kernel.specs.Channels.{is-closed, is-write, is-reading, put-before, with-own, is-latest, reads, writes, some-session, free-buffer, lowest-buffer, lowest-channel};
 ghost use Rattle.kernel.specs.Refusals.{no-channel};
@@ -10,27 +10,26 @@ ghost use Rattle.kernel.specs.Seen.{seen};
 ghost use Rattle.kernel.specs.Shows.{Kept, Shows};
 use kernel::Latest;
 use kernel::Session;
-use kernel::Slot;
 use kernel::State;
 
 // Whether a channel number is out of range, or unused.
-pub fn no_channel(s: State, c: usize) -> bool
-    ensures { λ r. ⌜ r ≡ no-channel (seen s) c ⌝ }
+pub fn no_channel(w: &[u32; State::WORDS], c: usize) -> bool
+    ensures { λ r. ⌜ r ≡ no-channel (seen (now (w .entry))) c ⌝ }
 {
     if c >= State::CHANNELS {
         return true;
     }
-    let channel = s.channels[c];
+    let channel = words::channel(w, c);
     channel.size == 0
 }
 
 // The lowest unused channel, CHANNELS where there is none.
-pub fn lowest_channel(s: State) -> usize
-    ensures { λ r. ⌜ r ≡ lowest-channel (seen s) ⌝ }
+pub fn lowest_channel(w: &[u32; State::WORDS]) -> usize
+    ensures { λ r. ⌜ r ≡ lowest-channel (seen (now (w .entry))) ⌝ }
 {
     let mut c: usize = 0;
     while c < State::CHANNELS {
-        let channel = s.channels[c];
+        let channel = words::channel(w, c);
         if channel.size == 0 {
             return c;
         }
@@ -84,30 +83,25 @@ pub fn buffer(z: Session) -> u32
 }
 
 // The session that the running task has on channel c, Closed where there is no such task or no such channel.
-pub fn own(s: State, c: usize) -> Session
-    ensures { λ r. ⌜ (c < channel-count → s .running .0 < task-count → r ≡ Channels.own (seen s) c) ⌝ }
+pub fn own(w: &[u32; State::WORDS], c: usize) -> Session
+    ensures { λ r. ⌜ (c < channel-count → seen (now (w .entry)) .running < task-count → r ≡ Channels.own (seen (now (w .entry))) c) ⌝ }
 {
-    let t = s.running.0;
+    let t = words::running(w);
     if c < State::CHANNELS {
         if t < State::TASKS {
-            let slot = s.sessions[State::TASKS * c + t];
-            let session = slot.session;
-            return session;
+            return words::session(w, State::TASKS * c + t);
         }
     }
     Session::Closed
 }
 
 // The running task has this session on channel c from now on.
-pub fn with_own(s: State, c: usize, z: Session) -> State
-    requires { ⌜ Kept s ⌝ ∗ ⌜ c < channel-count ⌝ ∗ ⌜ s .running .0 < task-count ⌝ }
-    ensures { λ r. ⌜ Shows r (with-own (seen s) c z) ⌝ }
+pub fn with_own(w: &mut [u32; State::WORDS], c: usize, z: Session)
+    requires { ⌜ Kept (now w) ⌝ ∗ ⌜ c < channel-count ⌝ ∗ ⌜ seen (now w) .running < task-count ⌝ ∗ ⌜ Channels.buffer z < most-buffers ⌝ }
+    ensures { λ _. ⌜ Shows (now (w .exit)) (with-own (seen (now (w .entry))) c z) ⌝ }
 {
-    let slot = Slot { session: z };
-    let t = s.running.0;
-    let mut r = s;
-    r.sessions[State::TASKS * c + t] = slot;
-    r
+    let t = words::running(w);
+    words::set_session(w, State::TASKS * c + t, z);
 }
 
 // ---- buffers
@@ -154,14 +148,13 @@ fn holds(z: Session, b: u32) -> bool
 }
 
 // Whether buffer b of channel c is read or being written.
-fn in_session(s: State, c: usize, b: u32) -> bool
+fn in_session(w: &[u32; State::WORDS], c: usize, b: u32) -> bool
     requires { ⌜ c < channel-count ⌝ }
-    ensures { λ r. ⌜ r ≡ some-session (reads b) task-count (seen s) c || some-session (writes b) task-count (seen s) c ⌝ }
+    ensures { λ r. ⌜ r ≡ some-session (reads b) task-count (seen (now (w .entry))) c || some-session (writes b) task-count (seen (now (w .entry))) c ⌝ }
 {
     let mut t: usize = 0;
     while t < State::TASKS {
-        let slot = s.sessions[State::TASKS * c + t];
-        let session = slot.session;
+        let session = words::session(w, State::TASKS * c + t);
         if holds(session, b) {
             return true;
         }
@@ -171,29 +164,29 @@ fn in_session(s: State, c: usize, b: u32) -> bool
 }
 
 // Whether buffer b of channel c is not latest, not read and not being written.
-fn free_buffer(s: State, c: usize, b: u32) -> bool
+fn free_buffer(w: &[u32; State::WORDS], c: usize, b: u32) -> bool
     requires { ⌜ c < channel-count ⌝ }
-    ensures { λ r. ⌜ r ≡ free-buffer (seen s) c b ⌝ }
+    ensures { λ r. ⌜ r ≡ free-buffer (seen (now (w .entry))) c b ⌝ }
 {
-    let channel = s.channels[c];
+    let channel = words::channel(w, c);
     let latest = channel.latest;
     if is_latest(latest, b) {
         return false;
     }
-    !in_session(s, c, b)
+    !in_session(w, c, b)
 }
 
 // The lowest such buffer, the number of buffers where there is none.
-pub fn lowest_buffer(s: State, c: usize) -> u32
-    ensures { λ r. ⌜ (c < channel-count → r ≡ lowest-buffer (seen s) c) ⌝ }
+pub fn lowest_buffer(w: &[u32; State::WORDS], c: usize) -> u32
+    ensures { λ r. ⌜ (c < channel-count → r ≡ lowest-buffer (seen (now (w .entry))) c) ⌝ }
 {
     if c >= State::CHANNELS {
         return 0;
     }
-    let channel = s.channels[c];
+    let channel = words::channel(w, c);
     let mut b: u32 = 0;
     while b < channel.buffers {
-        if free_buffer(s, c, b) {
+        if free_buffer(w, c, b) {
             return b;
         }
         b += 1;

@@ -7,33 +7,67 @@ use Prim.Native.Nat.{ℕ}
 use native.Mathlib.Omega.{arith}
 use lib.Dec.{ltb}
 use lib.ListN.{length, take}
+use lib.Seq.{take-length}
 use borrow.Author.Tests.{ltb-false}
 use Rattle.script.specs.Output.{title, output}
 use Rattle.script.specs.Blocks.{Served, start, more}
 use Rattle.script.proofs.Blocks.{in-blocks}
 use Rattle.console.specs.declared.Standing.{Standing}
 use Rattle.console.specs.declared.Ending.{Ending}
-use Rattle.console.specs.Exchange.{count, came, Answers, Exchanges, none, one-more, most-exchanges, Ran, input, Stopped, untitled, no-byte, not-taken}
+use Rattle.console.specs.Exchange.{count, came, Answers, taken, Exchanges, none, one-more, most-exchanges, Ran, input, all-came, Stopped, untitled, no-byte, not-taken}
+use Rattle.console.proofs.Exchanges.{came-length}
 
-input-more : (answers : List Answers) (a : Answers) → input (answers ++ (a ∷ [])) ≡ input answers ++ came (a .got) (a .block)
+-- What answers say, put one behind the other.
+both : (f : Answers → List ℕ) (g : List Answers → List ℕ) → g [] ≡ [] → ((a : Answers) (later : List Answers) → g (a ∷ later) ≡ f a ++ g later) → (answers : List Answers) (a : Answers)
+    → g (answers ++ (a ∷ [])) ≡ g answers ++ f a
+both f g nil cons [] a = cons a [] ∙ ap (λ (x : List ℕ). f a ++ x) nil ∙ append-nil (f a) ∙ ap (λ (x : List ℕ). x ++ f a) (sym nil)
+both f g nil cons (b ∷ answers) a =
+    cons b (answers ++ (a ∷ []))
+    ∙ ap (λ (x : List ℕ). f b ++ x) (both f g nil cons answers a)
+    ∙ sym (append-assoc (f b) (g answers) (f a))
+    ∙ ap (λ (x : List ℕ). x ++ f a) (sym (cons b answers))
+
+input-more : (answers : List Answers) (a : Answers) → input (answers ++ (a ∷ [])) ≡ input answers ++ taken a
 unfolding input
-input-more [] a = append-nil (came (a .got) (a .block))
-input-more (b ∷ answers) a =
-    let first = came (b .got) (b .block) in
-    ap (λ (x : List ℕ). first ++ x) (input-more answers a) ∙ sym (append-assoc first (input answers) (came (a .got) (a .block)))
+input-more = both (λ a. taken a) input refl (λ a later. refl)
+
+came-more : (answers : List Answers) (a : Answers) → all-came (answers ++ (a ∷ [])) ≡ all-came answers ++ came (a .got) (a .block)
+unfolding all-came
+came-more = both (λ a. came (a .got) (a .block)) all-came refl (λ a later. refl)
 
 -- Exchanges are blocks that are served.
-served : {titled : Bool} {answers : List Answers} {at : Standing} {line text : List ℕ} → Exchanges titled answers at line text
-    → Served (input answers) (at .state) line (at .begun) text
+served : {titled : Bool} {answers : List Answers} {at : Standing} {w line text : List ℕ} → Exchanges titled answers at w line text → Served (input answers) w line (at .begun) text
 unfolding input
 served (none e l) = start e
-served (one-more {answers} {next = next} {line′ = line′} {text} {block} {paper} so-far further e) =
-    subst (λ (x : List ℕ). Served x (next .state) line′ (next .begun) (text ++ take (next .printed) paper)) (sym (input-more answers _))
-    (more (came (e .got) block) (take (next .printed) paper) (served so-far) (e .reads))
+served (one-more {answers} {next = next} {v = v} {line′ = line′} {text} {block} so-far further e) =
+    subst (λ (x : List ℕ). Served x v line′ (next .begun) (text ++ e .text)) (sym (input-more answers _))
+    (more (take (e .read) (came (e .got) block)) (e .text) (served so-far) (e .reads))
 
--- **all-printed**: what a script hands to C, the title first and the last line last, is the output of all bytes that came. So it is what is printed, if C takes all that it is handed.
-pub all-printed : {r : Ending} (h : Ran r) → title ++ (h .text ++ take (r .printed) (r .out)) ≡ output (input (h .answers))
+-- **all-printed**: what a script hands to C, the title first and the last line last, is the output of all bytes that were read. So it is what is printed, if C takes all that it is handed.
+pub all-printed : {r : Ending} (h : Ran r) → title ++ (h .text ++ take (r .printed) (r .paper)) ≡ output (input (h .answers))
 all-printed h = in-blocks (served (h .exchanges)) (h .last)
+
+-- C took all that it was handed, in every exchange.
+abbrev pub TookAll : List Answers → Type 0
+TookAll [] = Unit {0}
+TookAll (a ∷ answers) = (a .whole ≡ true) × TookAll answers
+
+took-last : (answers : List Answers) (a : Answers) → TookAll (answers ++ (a ∷ [])) → TookAll answers × (a .whole ≡ true)
+took-last [] a t = (tt, t .0)
+took-last (b ∷ answers) a t = let h = took-last answers a (t .1) in ((t .0, h .0), h .1)
+
+whole-read : {titled : Bool} {answers : List Answers} {at : Standing} {w line text : List ℕ} → Exchanges titled answers at w line text → TookAll answers → input answers ≡ all-came answers
+unfolding input all-came
+whole-read (none e l) t = refl
+whole-read (one-more {answers} {block = block} so-far further e) t =
+    let h = took-last answers _ t in
+    let all : take (e .read) (came (e .got) block) ≡ came (e .got) block =
+    ap (λ (n : ℕ). take n (came (e .got) block)) (e .all (h .1) ∙ sym (came-length (e .got) block)) ∙ take-length (came (e .got) block) in
+    input-more answers _ ∙ (λ i. whole-read so-far (h .0) i ++ all i) ∙ sym (came-more answers _)
+
+-- **all-read**: where C took all that it was handed, every byte that came was read.
+pub all-read : {r : Ending} (h : Ran r) → TookAll (h .answers) → input (h .answers) ≡ all-came (h .answers)
+all-read h t = whole-read (h .exchanges) t
 
 -- No exchange follows the last one.
 at-last : {titled : Bool} (before : List Answers) (a : Answers) (t : Bool) → ltb 0 (count (a .got) (a .block)) ≡ t → t && a .whole ≡ false
@@ -41,7 +75,7 @@ at-last : {titled : Bool} (before : List Answers) (a : Answers) (t : Bool) → l
 at-last before a false nothing w = no-byte before a (let l = ltb-false 0 (count (a .got) (a .block)) nothing in omega arith)
 at-last before a true something w = not-taken before a w
 
-why : {titled : Bool} {answers : List Answers} {at : Standing} {line text : List ℕ} → Exchanges titled answers at line text → at .further ≡ false
+why : {titled : Bool} {answers : List Answers} {at : Standing} {w line text : List ℕ} → Exchanges titled answers at w line text → at .further ≡ false
     → Stopped titled answers
 why (none e l) f = untitled f
 why (one-more {answers} so-far further e) f = at-last answers _ _ refl (sym (e .further) ∙ f)

@@ -1,2 +1,3 @@
 -- Facts behind end and kill.
+pub mod Closing
 pub mod Ends

@@ -1,25 +1,23 @@
--- The fresh kernel is good, at any clock before lifetime, and the fresh state is sound. Assumes nothing.
-use mathlib.Core.Path.{_≡_, refl, ap, sym, _∙_}
+-- The fresh kernel is good, at any clock before lifetime; how its words are written. Assumes nothing.
+use mathlib.Core.Path.{_≡_, refl, ap, _∙_}
 use mathlib.Core.Logic.{inl, inr}
 use mathlib.Core.Bool.{false≢true}
-use mathlib.Core.List.{[]}
-use Prim.Native.Nat.{ℕ, zero, suc, _-_, _*_, _<_}
+use mathlib.Core.List.{List, []}
+use Prim.Native.Nat.{ℕ, zero, suc, _+_, _-_, _*_, _<_}
 use native.Mathlib.Omega.{arith}
-use lib.ListN.{getD, replicate, getD-replicate}
-use Rattle.laws_chain.specs.Chain.{end, walk}
+use lib.ListN.{getD, set, replicate}
 use Rattle.laws_chain.specs.Filing.{Queue}
 use Rattle.kernel.specs.declared.Channel.{Channel}
 use Rattle.kernel.specs.declared.Latest.the-variants.{Buffer}
 use Rattle.kernel.specs.declared.Session.the-variants.{Closed}
-use Rattle.kernel.specs.declared.Task.{Task}
 use Rattle.kernel.specs.declared.Slot.{Slot}
 use Rattle.kernel.specs.Sizes.{task-count, semaphore-count, channel-count, lifetime}
 use Rattle.kernel.specs.Status.{queue-of, queue-count}
-use Rattle.kernel.specs.Kernel.{Bare, Kernel, blank, task, queue, semaphore, channel, session, unused-semaphore, unused-channel, slot, slot-number}
+use Rattle.kernel.specs.Kernel.{Bare, blank, task, queue, semaphore, channel, session, unused-semaphore, unused-channel, slot, slot-number}
 use Rattle.kernel.specs.Good.{Good, GoodTask, GoodSemaphore, GoodChannel, Opens, standing, deadline-of}
-use Rattle.kernel.specs.Seen.{past, record-at, head-of, queue-from, seen}
-use Rattle.kernel.specs.Sound.{Filed, Sound}
-use Rattle.kernel.specs.Fresh.{main, alone, fresh, fresh-at, fresh-state}
+use Rattle.kernel.specs.Layout.{head-at, field, next-word, previous-word}
+use Rattle.kernel.specs.Codes.{none}
+use Rattle.kernel.specs.Fresh.{main, fresh, fresh-at, headless, unlinked}
 
 -- A list of one thing holds it at each number, past its end too where that is what is read there.
 everywhere : {A : Type 0} (n : ℕ) (a : A) (i : ℕ) → getD (replicate n a) i a ≡ a
@@ -145,32 +143,21 @@ pub fresh-good : Good fresh
 unfolding fresh
 fresh-good = fresh-at-good 0 (omega arith)
 
--- ---- the state
+-- ---- the words, one head more, and one task more
 
-pub fresh-seen : seen fresh-state ≡ fresh
-unfolding fresh fresh-state queue-from walk
-fresh-seen = refl
+module _ (w : List ℕ) where
+  pub no-head : w ≡ headless w 0
+  unfolding headless
+  no-head = refl
 
-alone-at : (x : ℕ) → x < task-count → record-at (fresh-state .tasks) x ≡ alone (task fresh x)
-unfolding fresh fresh-state
-alone-at zero h = refl
-alone-at (suc x) h = getD-replicate (task-count - 1) x (alone blank) past (omega arith) ∙ ap alone (sym (others x))
+  pub one-head : (v : List ℕ) (n : ℕ) → v ≡ headless w n → set v (head-at n) none ≡ headless w (n + 1)
+  unfolding headless
+  one-head v n e = let z : suc n ≡ n + 1 = omega arith in ap (λ (u : List ℕ). set u (head-at n) none) e ∙ ap (headless w) z
 
-head-at : (q : ℕ) → q < queue-count → head-of (fresh-state .heads) q ≡ end
-unfolding fresh-state
-head-at q h = getD-replicate queue-count q end _ h
+  pub no-link : w ≡ unlinked w 0
+  unfolding unlinked
+  no-link = refl
 
--- **fresh-sound**: a fresh kernel is sound.
-pub fresh-sound : Sound fresh-state
-fresh-sound = record { filed = filed; good = rw fresh-seen fresh-good }
-  where
-    none : (q : ℕ) → queue (seen fresh-state) q ≡ []
-    none q = ap (λ (k : Kernel). queue k q) fresh-seen ∙ no-one q
-
-    filed : Filed fresh-state
-    filed =
-        record {
-          linked = λ q h. rw (none q) (record { whole = head-at q h });
-          alone-next = λ x h l. ap (λ (a : Task). a .next) (alone-at x h);
-          alone-previous = λ x h l. ap (λ (a : Task). a .previous) (alone-at x h);
-        }
+  pub one-task : (v : List ℕ) (n : ℕ) → v ≡ unlinked w n → set (set v (field n next-word) none) (field n previous-word) none ≡ unlinked w (n + 1)
+  unfolding unlinked
+  one-task v n e = let z : suc n ≡ n + 1 = omega arith in ap (λ (u : List ℕ). set (set u (field n next-word) none) (field n previous-word) none) e ∙ ap (unlinked w) z

@@ -3,9 +3,9 @@ pub mod Refusals
 pub mod Said
 pub mod Rows
 pub mod Sizes
+pub mod Codes
 pub mod Allowed
 pub mod Decided
-pub mod Seen
 pub mod Shows
 pub mod Moves
 pub mod Processor

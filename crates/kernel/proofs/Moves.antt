@@ -1,16 +1,17 @@
 -- What a move does to each record and each queue, and that it keeps the queues in order. Assumes nothing.
-use mathlib.Core.Path.{_≡_, refl, ap, sym, _∙_}
-use mathlib.Core.List.{[]}
+use mathlib.Core.Path.{_≡_, refl, ap, sym, subst₂, _∙_}
+use mathlib.Core.List.{List, []}
 use Prim.Native.Nat.{ℕ, _<_}
 use native.Mathlib.Omega.{arith}
 use native.Mathlib.Decide.{ℕ-discrete}
-use lib.ListN.{length, getD, set, length-set}
-use lib.Seq.{getD-set-same, getD-set-other}
+use lib.ListN.{length, getD, set, length-set, List·getD-map}
+use lib.Seq.{getD-set-same, getD-set-other, map-set-same, set-set}
 use lib.Dec.{leb}
 use Rattle.laws_chain.specs.Lists.{insert, remove}
 use Rattle.laws_chain.specs.Filing.{Queue}
 use Rattle.laws_chain.proofs.Lists.{remove-absent}
 use Rattle.laws_chain.proofs.Filing.{absent, loosened, loose-here, loose-there, queue-left, queue-joined}
+use Rattle.kernel.specs.declared.Class.{Class}
 use Rattle.kernel.specs.Sizes.{task-count}
 use Rattle.kernel.specs.Status.{queue-of, queue-count}
 use Rattle.kernel.specs.Kernel.{Bare, Kernel, task, queue, blank, with-tasks}
@@ -90,3 +91,38 @@ module _ {k : Kernel} {i : ℕ} (m : Movable k i) where
             (queue-joined (out-queues (queue-of (a .status)) (rw (sym e) l)) (λ x ne. kept-place x ne ∙ sym (loose-there queue-count i (standing k) x ne)) kept-deadline _ passed (m .is-task)
             (λ z. let h = loose-here queue-count i (standing k) in omega arith) moved-place)
         go (no ne) = rw (kept-queue q l ne) (queue-left (m .queues q l) kept-place kept-deadline (m .is-task) (λ z. ne (sym z ∙ moved-place)))
+
+-- ---- another class first
+
+-- A record, and the kernel where task i has it, with another class.
+abbrev pub of-class : Bare → Class → Bare
+of-class a c = record { class = c; status = a .status; deadline = a .deadline }
+
+abbrev pub reclassed : Kernel → ℕ → Class → Kernel
+reclassed k i c = with-tasks k (set (k .tasks) i (of-class (task k i) c)) (k .queues)
+
+-- It stands where it stood, with the deadline that it had: so the queues stay in order, and a move gives what it gave.
+module _ (k : Kernel) (i : ℕ) (c : Class) where
+  told : (f : Bare → ℕ) → f (of-class (task k i) c) ≡ f (task k i) → (x : ℕ) → f (task (reclassed k i c) x) ≡ f (task k x)
+  told f e x =
+      sym (List·getD-map f (reclassed k i c .tasks) x blank) ∙ ap (λ (ns : List ℕ). getD ns x (f blank)) (map-set-same f (k .tasks) i _ blank e) ∙ List·getD-map f (k .tasks) x blank
+
+  pub reclassed-standing : standing (reclassed k i c) ≡ standing k
+  reclassed-standing = λ j x. told (λ a. queue-of (a .status)) refl x j
+
+  pub reclassed-deadlines : deadline-of (reclassed k i c) ≡ deadline-of k
+  reclassed-deadlines = λ j x. told (λ a. a .deadline) refl x j
+
+  pub reclassed-queues : Queued k → Queued (reclassed k i c)
+  reclassed-queues h q l =
+      subst₂ (λ (p d : ℕ → ℕ). Queue task-count p d q (queue k q)) (sym reclassed-standing) (sym reclassed-deadlines) (h q l)
+
+  pub reclassed-move : (a : Bare) → move (reclassed k i c) i a ≡ move k i a
+  unfolding move
+  reclassed-move a = λ j. with-tasks k (set-set (k .tasks) i (of-class (task k i) c) a j) (from (reclassed-standing j i) (reclassed-deadlines j))
+    where
+      from : ℕ → (ℕ → ℕ) → List (List ℕ)
+      from p deadline =
+          let qs = set (k .queues) p (remove i (queue k p)) in
+          let q = queue-of (a .status) in
+          set qs q (insert (λ x. leb (deadline x) (a .deadline)) i (getD qs q []))

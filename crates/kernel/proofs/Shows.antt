@@ -1,46 +1,25 @@
--- States that show kernels, step by step. Assumes nothing.
+-- Words that show kernels, step by step. Assumes nothing.
 use mathlib.Core.Path.{_≡_, refl, ap, _∙_}
 use mathlib.Core.List.{List}
 use Prim.Native.Nat.{ℕ}
-use Rattle.kernel.specs.declared.Stop.{Stop}
-use Rattle.kernel.specs.declared.TaskNo.{TaskNo}
-use Rattle.kernel.specs.declared.Semaphore.{Semaphore}
-use Rattle.kernel.specs.declared.Channel.{Channel}
-use Rattle.kernel.specs.declared.Slot.{Slot}
-use Rattle.kernel.specs.declared.State.{State}
 use Rattle.kernel.specs.Kernel.{Kernel}
+use Rattle.kernel.specs.Layout.{word, running-at}
 use Rattle.kernel.specs.Seen.{seen}
 use Rattle.kernel.specs.Sound.{Sound}
 use Rattle.kernel.specs.Shows.{Kept, Shows}
 
--- A sound state's links are in order.
-pub kept : {s : State} → Sound s → Kept s
-kept h = record { filed = h .filed; queues = h .good .queues }
+-- The links of sound words are in order.
+pub kept : {w : List ℕ} → Sound w → Kept w
+kept h = record { formed = h .formed; filed = h .filed; queues = h .good .queues }
 
--- A state shows what is seen in it.
-pub itself : {s : State} → Kept s → Shows s (seen s)
+-- Words show what is seen in them.
+pub itself : {w : List ℕ} → Kept w → Shows w (seen w)
 itself h = record { kept = h; is = refl }
 
 -- What is done to what is seen is done to what is shown.
-pub then : {s t : State} {k : Kernel} (f : Kernel → Kernel) → Shows s k → Shows t (f (seen s)) → Shows t (f k)
+pub then : {w v : List ℕ} {k : Kernel} (f : Kernel → Kernel) → Shows w k → Shows v (f (seen w)) → Shows v (f k)
 then f a b = record { kept = b .kept; is = b .is ∙ ap f (a .is) }
 
--- Who runs in it.
-pub running : {s : State} {k : Kernel} → Shows s k → s .running .0 ≡ k .running
+-- Who runs in them.
+pub running : {w : List ℕ} {k : Kernel} → Shows w k → word w running-at ≡ k .running
 running h = ap (λ (j : Kernel). j .running) (h .is)
-
--- The links say nothing of what stands beside the table.
-pub beside : {s : State} {clock total : ℕ} {stop : Stop} {running : TaskNo} {semaphores : List Semaphore} {channels : List Channel} {sessions : List Slot} → Kept s
-    → Kept
-    (record {
-      clock = clock;
-      stop = stop;
-      running = running;
-      total = total;
-      tasks = s .tasks;
-      heads = s .heads;
-      semaphores = semaphores;
-      channels = channels;
-      sessions = sessions;
-    })
-beside h = record { filed = h .filed; queues = h .queues }

@@ -1,16 +1,16 @@
 -- The fresh kernel: clock 0, no stop, task 0 EXE, the rest FREE or unused, share total 0. Assumes nothing.
-use mathlib.Core.List.{[], _∷_}
-use Prim.Native.Nat.{ℕ, _-_, _*_}
-use lib.ListN.{replicate}
-use Rattle.laws_chain.specs.Chain as Chain
+use mathlib.Core.List.{List, [], _∷_}
+use Prim.Native.Nat.{ℕ, zero, suc, _-_, _*_}
+use lib.ListN.{set, replicate}
 use Rattle.kernel.specs.declared.Class.the-variants.{Nrt}
 use Rattle.kernel.specs.declared.Status.the-variants.{Exe}
 use Rattle.kernel.specs.declared.Stop.the-variants.{Going}
 use Rattle.kernel.specs.declared.Session.the-variants.{Closed}
-use Rattle.kernel.specs.declared.Task.{Task}
 use Rattle.kernel.specs.declared.State.{State}
 use Rattle.kernel.specs.Sizes.{task-count, semaphore-count, channel-count, main-priority, nrt-deadline}
 use Rattle.kernel.specs.Status.{queue-count}
+use Rattle.kernel.specs.Layout.{head-at, field, amount-word, status-word, deadline-word, next-word, previous-word, word-count}
+use Rattle.kernel.specs.Codes.{none, status-code}
 use Rattle.kernel.specs.Kernel.{Bare, Kernel, blank, unused-semaphore, unused-channel, slot, with-clock}
 
 -- The main task, which runs.
@@ -35,21 +35,25 @@ fresh =
 abbrev pub fresh-at : ℕ → Kernel
 fresh-at n = with-clock fresh n
 
--- A record of the state that stands in no queue.
-abbrev pub alone : Bare → Task
-alone a = record { class = a .class; status = a .status; deadline = a .deadline; next = Chain.end; previous = Chain.end }
+-- ---- its words
 
--- The state that the fresh kernel is seen in.
-unfoldable pub fresh-state : State
-fresh-state =
-    record {
-      clock = 0;
-      stop = Going;
-      running = record { 0 = 0 };
-      total = 0;
-      tasks = alone main ∷ replicate (task-count - 1) (alone blank);
-      heads = replicate queue-count Chain.end;
-      semaphores = replicate semaphore-count unused-semaphore;
-      channels = replicate channel-count unused-channel;
-      sessions = replicate (task-count * channel-count) (slot Closed);
-    }
+-- The first n heads are -1.
+unfoldable pub headless : List ℕ → ℕ → List ℕ
+headless w zero = w
+headless w (suc n) = set (headless w n) (head-at n) none
+
+-- The links of the first n tasks are -1.
+unfoldable pub unlinked : List ℕ → ℕ → List ℕ
+unlinked w zero = w
+unlinked w (suc n) = set (set (unlinked w n) (field n next-word) none) (field n previous-word) none
+
+-- The record of task 0 is the main task's.
+unfoldable pub with-main : List ℕ → List ℕ
+with-main w = set (set (set w (field 0 amount-word) main-priority) (field 0 status-word) (status-code Exe)) (field 0 deadline-word) (nrt-deadline main-priority)
+
+-- Every word is 0 but for heads, links and the main task.
+unfoldable pub fresh-words : List ℕ
+fresh-words = with-main (unlinked (headless (replicate word-count 0) queue-count) task-count)
+
+abbrev pub fresh-state : State
+fresh-state = record { words = fresh-words }

@@ -11,8 +11,11 @@ pub mod Channels
 pub mod Calls
 pub mod Refusals
 pub mod Step
+pub mod Layout
+pub mod Codes
 pub mod Seen
 pub mod Good
+pub mod Form
 pub mod Sound
 pub mod Shows
 pub mod Slices

@@ -1,17 +1,20 @@
--- A state whose links are in order, and what it shows. Assumes nothing.
+-- Words whose links are in order, and what they show. Assumes nothing.
 use mathlib.Core.Path.{_≡_}
-use Rattle.kernel.specs.declared.State.{State}
+use mathlib.Core.List.{List}
+use Prim.Native.Nat.{ℕ}
 use Rattle.kernel.specs.Kernel.{Kernel}
-use Rattle.kernel.specs.Seen.{seen}
 use Rattle.kernel.specs.Good.{Queued}
+use Rattle.kernel.specs.Seen.{seen}
+use Rattle.kernel.specs.Form.{Formed}
 use Rattle.kernel.specs.Sound.{Filed}
 
--- The links hold the queues, and each queue holds exactly its tasks, once each, by rising deadline.
-pub record Kept (s : State) : Type 0 where
-  pub filed : Filed s
-  pub queues : Queued (seen s)
+-- The words are in form, the links hold the queues, and each queue holds exactly its tasks, once each, by rising deadline.
+pub record Kept (w : List ℕ) : Type 0 where
+  pub formed : Formed w
+  pub filed : Filed w
+  pub queues : Queued (seen w)
 
--- Such a state, in which the kernel k is seen.
-pub record Shows (s : State) (k : Kernel) : Type 0 where
-  pub kept : Kept s
-  pub is : seen s ≡ k
+-- Such words, in which the kernel k is seen.
+pub record Shows (w : List ℕ) (k : Kernel) : Type 0 where
+  pub kept : Kept w
+  pub is : seen w ≡ k

@@ -1,9 +1,9 @@
 // The state of one controller, with its sizes, its numbers and its fresh kernel, and what a call gives back.
 ghost use mathlib.Core.Path.{_≡_};
-ghost use Rattle.kernel.specs.Status.{status-number, stop-number, waiting, queue-of};
-ghost use Rattle.kernel.specs.Sizes.{fitting};
+ghost use Rattle.kernel.specs.Status.{status-number, stop-number, waiting, queue-count, queue-of};
+ghost use Rattle.kernel.specs.Sizes.{task-count, fitting};
 ghost use Rattle.kernel.specs.Kernel.{period-of};
-ghost use Rattle.kernel.specs.Fresh.{fresh-state};
+ghost use Rattle.kernel.specs.Fresh.{headless, unlinked, fresh-state};
 
 // Numbers of three kinds, which cannot be mixed. A caller may hand in any.
 pub struct TaskNo(pub usize);
@@ -71,18 +71,9 @@ pub enum Stop {
     Lifetime,
 }
 
-// The heads are those of ready, idle, zombie and each semaphore's queue, in this order.
-// The session of task t on channel c is at TASKS * c + t.
+// The words of docs/LAYOUT.md, any words at all.
 pub struct State {
-    pub clock: u32,
-    pub stop: Stop,
-    pub running: TaskNo,
-    pub total: u32,
-    pub tasks: [Task; State::TASKS],
-    pub heads: [i64; State::QUEUES],
-    pub semaphores: [Semaphore; State::SEMAPHORES],
-    pub channels: [Channel; State::CHANNELS],
-    pub sessions: [Slot; State::SESSIONS],
+    pub words: [u32; State::WORDS],
 }
 
 // Slack -3 is Done(-3), refusal -3 is Refused(-3).
@@ -154,6 +145,9 @@ impl State {
     pub const CHANNELS_AT: usize = State::SESSIONS_AT + State::SESSIONS;
 
     pub const WORDS: usize = State::CHANNELS_AT + Channel::WORDS * State::CHANNELS;
+
+    // The word of the link -1.
+    pub const NONE: u32 = 4294967295;
 }
 
 // The words of a task's record; those from SPARE on are 0.
@@ -173,6 +167,9 @@ impl Task {
     pub const SPARE: usize = 6;
 
     pub const WORDS: usize = 8;
+
+    // The word of the status EXE.
+    pub const EXE: u32 = 2;
 }
 
 // The words of a channel's record.
@@ -217,52 +214,39 @@ impl State {
     pub const WRONG_SESSION: i64 = -14;
 }
 
+fn no_heads(w: &mut [u32; State::WORDS])
+    ensures { λ _. ⌜ now (w .exit) ≡ headless (now (w .entry)) queue-count ⌝ }
+{
+    let mut q: usize = 0;
+    while q < State::QUEUES {
+        w[State::HEADS_AT + q] = State::NONE;
+        q += 1;
+    }
+}
+
+fn no_links(w: &mut [u32; State::WORDS])
+    ensures { λ _. ⌜ now (w .exit) ≡ unlinked (now (w .entry)) task-count ⌝ }
+{
+    let mut x: usize = 0;
+    while x < State::TASKS {
+        w[State::TASKS_AT + Task::WORDS * x + Task::NEXT] = State::NONE;
+        w[State::TASKS_AT + Task::WORDS * x + Task::PREVIOUS] = State::NONE;
+        x += 1;
+    }
+}
+
 impl State {
-    // The fresh kernel.
+    // The fresh kernel: the main task runs, with its priority and its deadline.
     pub fn fresh() -> State
         ensures { λ r. ⌜ r ≡ fresh-state ⌝ }
     {
-        let free = Task {
-            class: Class::Nrt { priority: 0 },
-            status: Status::Free,
-            deadline: 0,
-            next: -1,
-            previous: -1,
-        };
-        let main = Task {
-            class: Class::Nrt {
-                priority: State::MAIN_PRIORITY,
-            },
-            status: Status::Exe,
-            deadline: State::NRT_DEADLINE + State::MAIN_PRIORITY,
-            next: -1,
-            previous: -1,
-        };
-        let mut tasks = [free; State::TASKS];
-        tasks[0] = main;
-        let unused = Semaphore {
-            used: false,
-            count: 0,
-        };
-        let channel = Channel {
-            size: 0,
-            buffers: 0,
-            latest: Latest::Nothing,
-        };
-        let slot = Slot {
-            session: Session::Closed,
-        };
-        State {
-            clock: 0,
-            stop: Stop::Going,
-            running: TaskNo(0),
-            total: 0,
-            tasks: tasks,
-            heads: [-1i64; State::QUEUES],
-            semaphores: [unused; State::SEMAPHORES],
-            channels: [channel; State::CHANNELS],
-            sessions: [slot; State::SESSIONS],
-        }
+        let mut w = [0u32; State::WORDS];
+        no_heads(&mut w);
+        no_links(&mut w);
+        w[State::TASKS_AT + Task::AMOUNT] = State::MAIN_PRIORITY;
+        w[State::TASKS_AT + Task::STATUS] = Task::EXE;
+        w[State::TASKS_AT + Task::DEADLINE] = State::NRT_DEADLINE + State::MAIN_PRIORITY;
+        State { words: w }
     }
 }
 

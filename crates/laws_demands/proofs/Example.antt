@@ -37,7 +37,7 @@ run =
     let own = subst (Run memory (played .state) (played .memory)) example (played .run) in
     aside own (screened .made) (refused-exactly (run-sound own) (screened .made) (minus 12) .1 refl)
 
-pub sound : Sound (played .state)
+pub sound : Sound (played .state .words)
 sound = run-sound run
 
 pub whole : Whole with-aside

@@ -9,7 +9,7 @@ use Rattle.kernel.specs.declared.State.{State}
 use Rattle.kernel.specs.declared.Reply.{Reply}
 use Rattle.kernel.specs.Calls.{Call}
 use Rattle.kernel.specs.Slices.{Slice, slice}
-use Rattle.kernel.specs.Promise.{Loan, Answered, Unlent, Lent, answer-of, unchanged}
+use Rattle.kernel.specs.Promise.{Loan, Answered, Unlent, Lent, answer-of, reply}
 use Rattle.laws_runs.specs.Trace.{asks, instead}
 use Rattle.laws_demands.specs.Functions.{Made, tick, create-hard, create-nrt, activate, sleep, cycle, end, kill, new-semaphore, delete, wait, signal, clock, status, deadline, period, slack, open-channel, begin-write, piece, put, begin-reading, showing, close, screen}
 
@@ -56,8 +56,8 @@ module _ {s : State} {m : List ℕ} {r : Reply} where
   reads {c} memory e held p = lent memory m e held (subst (Lent c s (slice memory) r) held p)
 
   -- One that hands back a slice, and its answer through references.
-  shows : {c : Call} (memory given : RefT (List ℕ)) (text : Slice) (a : Answer) → text .bytes ≡ instead (asks c) → memory .now ≡ m → r ≡ unchanged s a
-      → Answered c s (record { memory = slice memory; standby = text }) (record { reply = unchanged s a; memory = memory .now; shown = some (slice given) })
+  shows : {c : Call} (memory given : RefT (List ℕ)) (text : Slice) (a : Answer) → text .bytes ≡ instead (asks c) → memory .now ≡ m → r ≡ reply (s .words) a
+      → Answered c s (record { memory = slice memory; standby = text }) (record { reply = reply (s .words) a; memory = memory .now; shown = some (slice given) })
       → Promised s m r c m (some (given .now))
   shows {c} memory given text a e held f p =
       let l : Loan = record { memory = slice memory; standby = text } in

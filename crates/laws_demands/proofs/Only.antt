@@ -17,7 +17,7 @@ use Rattle.laws_demands.proofs.Model.{bytes-handed}
 module _ {c : Call} {s : State} {l : Loan} {g : Given} (a : Answered c s l g) where
   -- What the model's step gives.
   abbrev outcome : Outcome
-  outcome = step c (handed (a .sound) s (l .memory .bytes))
+  outcome = step c (handed (a .sound) (s .words) (l .memory .bytes))
 
   -- Lent the same bytes elsewhere, a call gives the same, with the slice of that loan.
   elsewhere : (k : Loan) → l .memory .bytes ≡ k .memory .bytes → Answered c s k (record { reply = g .reply; memory = g .memory; shown = handed-back (outcome .shown) k })
@@ -27,7 +27,7 @@ module _ {c : Call} {s : State} {l : Loan} {g : Given} (a : Answered c s l g) wh
         sound = a .sound;
         decided = a .decided;
         gives =
-            subst (λ (m : List ℕ). Gives (step c (handed (a .sound) s m)) s k (record { reply = g .reply; memory = g .memory; shown = handed-back (outcome .shown) k }))
+            subst (λ (m : List ℕ). Gives (step c (handed (a .sound) (s .words) m)) (s .words) k (record { reply = g .reply; memory = g .memory; shown = handed-back (outcome .shown) k }))
             e (record { answer = h .answer; state = h .state; running = h .running; memory = h .memory; shown = refl });
       }
 

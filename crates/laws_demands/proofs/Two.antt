@@ -28,28 +28,28 @@ use Rattle.laws_demands.proofs.Functions.{bytes, promised}
 use Rattle.laws_demands.proofs.Model.{bytes-handed, as-model}
 
 -- **run-sound**: every state of every run is sound.
-pub run-sound : {m n : List ℕ} {s : State} {h : List Event} → Run m s n h → Sound s
+pub run-sound : {m n : List ℕ} {s : State} {h : List Event} → Run m s n h → Sound (s .words)
 run-sound r = as-model r .sound
 
 -- **run-earliest**: in each of them the running deadline is no later than any ready one, and the ready tasks stand by deadline.
-pub run-earliest : {m n : List ℕ} {s : State} {h : List Event} → Run m s n h → EarliestFirst (seen s)
+pub run-earliest : {m n : List ℕ} {s : State} {h : List Event} → Run m s n h → EarliestFirst (seen (s .words))
 run-earliest r = earliest-first (run-sound r)
 
 -- In a run, so on a sound state:
-module _ {s : State} {m : List ℕ} {c : Call} {r : Reply} {left : List ℕ} {shown : Option (List ℕ)} (sound : Sound s) (p : Made s m r c left shown) where
+module _ {s : State} {m : List ℕ} {c : Call} {r : Reply} {left : List ℕ} {shown : Option (List ℕ)} (sound : Sound (s .words)) (p : Made s m r c left shown) where
   -- **refused-exactly**: a call is refused with x exactly where row x is the first of the table that applies.
-  pub refused-exactly : (x : ℤ) → (said (r .answer) ≡ refused x) ↔ (first (rows c (handed true s m)) ≡ some x)
+  pub refused-exactly : (x : ℤ) → (said (r .answer) ≡ refused x) ↔ (first (rows c (handed true (s .words) m)) ≡ some x)
   refused-exactly x =
       let q = promised p in
-      subst (λ (y : List ℕ). (said (r .answer) ≡ refused x) ↔ (first (rows c (handed true s y)) ≡ some x)) (q .lent) (Answers.refused-exactly (q .answered) true (truly sound) x)
+      subst (λ (y : List ℕ). (said (r .answer) ≡ refused x) ↔ (first (rows c (handed true (s .words) y)) ≡ some x)) (q .lent) (Answers.refused-exactly (q .answered) true (truly sound) x)
 
   -- **takes-effect**: a legal call takes effect.
-  pub takes-effect : first (rows c (handed true s m)) ≡ none → Took s m r c left shown
+  pub takes-effect : first (rows c (handed true (s .words) m)) ≡ none → Took s m r c left shown
   takes-effect e =
       let q = promised p in
       let l = q .loan in
-      let t = Answers.takes-effect (q .answered) sound (subst (λ (y : List ℕ). first (rows c (handed true s y)) ≡ none) (sym (q .lent)) e) in
-      let x = effect c (seen s) (l .memory .bytes) .shown in
+      let t = Answers.takes-effect (q .answered) sound (subst (λ (y : List ℕ). first (rows c (handed true (s .words) y)) ≡ none) (sym (q .lent)) e) in
+      let x = effect c (seen (s .words)) (l .memory .bytes) .shown in
       let bytes-are : shown ≡ bytes-of x (l .memory .bytes) (instead (asks c)) =
       sym (q .shown-is) ∙ ap bytes (t .shown) ∙ bytes-handed x l ∙ ap (bytes-of x (l .memory .bytes)) (q .text) in
       subst (λ (y : List ℕ). Took s y r c left shown) (q .lent) (record { answer = t .answer; state = t .state; memory = t .memory; shown-is = bytes-are })

@@ -14,7 +14,7 @@ use Rattle.kernel.specs.declared.SemaphoreNo.{SemaphoreNo}
 use Rattle.kernel.specs.declared.ChannelNo.{ChannelNo}
 use Rattle.kernel.specs.Calls as Calls
 use Rattle.kernel.specs.Calls.{Call, verb, question, on-channel}
-use Rattle.kernel.specs.Promise.{answer-of, unchanged}
+use Rattle.kernel.specs.Promise.{answer-of, reply}
 use Rattle.ticks.proofs.tick.Reads.{Post as Tick}
 use Rattle.creation.proofs.create_hard.Reads.{Post as CreateHard}
 use Rattle.creation.proofs.create_nrt.Reads.{Post as CreateNrt}
@@ -74,8 +74,8 @@ pub data Made (s : State) (m : List ℕ) (r : Reply) : Call → (left : List ℕ
       → Made s m r (on-channel (Calls.close (n .0))) m none
   -- These two hand back a slice, and the answer through references; the state stays.
   showing : (κ : Lfts 3) (n : ChannelNo) (memory given : RefT (List ℕ)) (refused mark : RefT Bool) (number told : RefT ℤ) → memory .now ≡ m
-      → Showing κ (s, (n, (memory, (refused, (number, tt))))) given (s, (n, (memory, (mark, (told, tt))))) → r ≡ unchanged s (answer-of (mark .now) (told .now))
+      → Showing κ (s, (n, (memory, (refused, (number, tt))))) given (s, (n, (memory, (mark, (told, tt))))) → r ≡ reply (s .words) (answer-of (mark .now) (told .now))
       → Made s m r (on-channel (Calls.showing (n .0))) m (some (given .now))
   screen : (κ : Lfts 3) (n : ChannelNo) (memory standby given : RefT (List ℕ)) (refused mark : RefT Bool) (number told : RefT ℤ) → memory .now ≡ m
       → Screen κ (s, (n, (memory, (standby, (refused, (number, tt)))))) given (s, (n, (memory, (standby, (mark, (told, tt))))))
-      → r ≡ unchanged s (answer-of (mark .now) (told .now)) → Made s m r (on-channel (Calls.screen (n .0) (standby .now))) m (some (given .now))
+      → r ≡ reply (s .words) (answer-of (mark .now) (told .now)) → Made s m r (on-channel (Calls.screen (n .0) (standby .now))) m (some (given .now))

@@ -9,13 +9,14 @@ use Rattle.kernel.specs.declared.State.{State}
 use Rattle.kernel.specs.declared.Reply.{Reply}
 use Rattle.kernel.specs.Answer.{refused, said}
 use Rattle.kernel.specs.Calls.{Call}
+use Rattle.kernel.specs.Promise.{runs}
 use Rattle.kernel.proofs.State.fresh.Reads.{Post as Fresh}
 use Rattle.laws_runs.specs.Trace.{Event}
 use Rattle.laws_demands.specs.Functions.{Made}
 
 -- The event of a call that was handed the state s: who ran there, the call, and what it answered and handed back.
 abbrev pub event : (aside : Bool) → State → Call → Reply → Option (List ℕ) → Event
-event aside s c r shown = record { who = s .running .0; call = c; answer = said (r .answer); shown = shown; aside = aside }
+event aside s c r shown = record { who = runs (s .words) .0; call = c; answer = said (r .answer); shown = shown; aside = aside }
 
 -- A run that began with `State::fresh` and the message memory m has come to this state, this memory and this trace. A call is handed the
 -- state that the one before gave back, and the memory with the bytes that it left. A refused call may instead be handed any other state and

@@ -12,11 +12,11 @@ use Rattle.kernel.specs.Refusals.{table}
 use Rattle.kernel.specs.Step.{step}
 use Rattle.kernel.specs.Seen.{seen}
 use Rattle.kernel.specs.Sound.{Sound}
-use Rattle.kernel.specs.Promise.{handed-back, unchanged, Loan, Given, Answered}
+use Rattle.kernel.specs.Promise.{handed-back, Loan, Given, Answered, reply}
 use Rattle.kernel.proofs.Refusals.{Each}
 use Rattle.kernel.proofs.Decided.{yes as truly, no as untrue}
+use Rattle.laws_words.proofs.Shown.{words-of, shown}
 use Rattle.laws_promises.specs.Outcome.{OneOf, OneOutcome}
-use Rattle.laws_promises.proofs.States.{state-of, shown}
 use Rattle.laws_promises.proofs.Soundness.{sound?}
 use Rattle.laws_promises.proofs.Answers.{By, says, next-good, refused-listed, one-outcome}
 
@@ -26,21 +26,20 @@ each-one-of P [] f = tt
 each-one-of P (n ∷ ns) f = (f n (inl refl), each-one-of P ns (λ x o. f x (inr o)))
 
 module _ (c : Call) (s : State) (l : Loan) where
-  -- What is given where the table says o: refused, the state and the memory as they were; else the state that the next kernel is seen in.
-  outcome : (b : Bool) → (b ≡ true) ↔ Sound s → (o : Option ℤ) → says c s l b ≡ o → (g : Given) × By c s l g b o
+  -- What is given where the table says o: refused, the state and the memory as they were; else the words that the next kernel is seen in.
+  outcome : (b : Bool) → (b ≡ true) ↔ Sound (s .words) → (o : Option ℤ) → says c s l b ≡ o → (g : Given) × By c s l g b o
   outcome b d (some x) e =
-      let f = effect c (seen s) (l .memory .bytes) in (
-        record { reply = unchanged s (Refused x); memory = l .memory .bytes; shown = handed-back (f .instead) l },
+      let f = effect c (seen (s .words)) (l .memory .bytes) in (
+        record { reply = reply (s .words) (Refused x); memory = l .memory .bytes; shown = handed-back (f .instead) l },
         record { answer = refl; state = refl; running = refl; memory = refl; shown = refl },
       )
   outcome b d none e =
-      let f = effect c (seen s) (l .memory .bytes) in
-      let t = state-of (f .kernel) in (
-        record { reply = record { state = t; answer = Done (f .number); running = t .running }; memory = f .memory; shown = handed-back (f .shown) l },
+      let f = effect c (seen (s .words)) (l .memory .bytes) in (
+        record { reply = reply (words-of (f .kernel)) (Done (f .number)); memory = f .memory; shown = handed-back (f .shown) l },
         record { answer = refl; state = shown (f .kernel) (next-good c s l b d e); running = refl; memory = refl; shown = refl },
       )
 
-  always : (b : Bool) → (b ≡ true) ↔ Sound s → OneOutcome c s l
+  always : (b : Bool) → (b ≡ true) ↔ Sound (s .words) → OneOutcome c s l
   unfolding step
   always b d =
       let o = outcome b d (says c s l b) refl in
@@ -54,8 +53,8 @@ module _ (c : Call) (s : State) (l : Loan) where
 
 -- **always-answers**: every call has one outcome and no other, whatever state, numbers and memory it is handed.
 pub always-answers : (c : Call) (s : State) (l : Loan) → OneOutcome c s l
-always-answers c s l = go (sound? s)
+always-answers c s l = go (sound? (s .words))
   where
-    go : Dec (Sound s) → OneOutcome c s l
+    go : Dec (Sound (s .words)) → OneOutcome c s l
     go (yes w) = always c s l true (truly w)
     go (no n) = always c s l false (untrue n)

@@ -1,5 +1,6 @@
 -- The running task is the earliest, and the ready queue is served in order. Assumes nothing.
 use mathlib.Core.Path.{_≡_, sym, ap, subst, _∙_}
+use mathlib.Core.List.{List}
 use Prim.Native.Nat.{ℕ, _≤_, _<_}
 use native.Mathlib.Omega.{arith}
 use native.Mathlib.Decide.{ℕ-discrete}
@@ -9,7 +10,6 @@ use Rattle.laws_chain.specs.Lists.{Among, insert, remove}
 use Rattle.laws_chain.specs.Filing.{Queue}
 use Rattle.laws_chain.proofs.Filing.{loose-there}
 use Rattle.kernel.specs.declared.Class.the-variants.{Nrt}
-use Rattle.kernel.specs.declared.State.{State}
 use Rattle.kernel.specs.Sizes.{task-count, nrt-deadline}
 use Rattle.kernel.specs.Status.{FREE, status-number, queue-of, queue-count, ready-queue}
 use Rattle.kernel.specs.Kernel.{Bare, Kernel, task, queue}
@@ -99,7 +99,7 @@ module _ {k : Kernel} (g : Good k) where
         ties = tie-rule queues-kept;
       }
 
--- **earliest-first**: on a sound state the running deadline is no later than any ready one, and the ready queue is served by deadline and,
+-- **earliest-first**: in sound words the running deadline is no later than any ready one, and the ready queue is served by deadline and,
 -- of equal deadlines, in the order of joining.
-pub earliest-first : {s : State} → Sound s → EarliestFirst (seen s)
+pub earliest-first : {w : List ℕ} → Sound w → EarliestFirst (seen w)
 earliest-first h = good-earliest-first (h .good)

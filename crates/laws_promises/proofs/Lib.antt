@@ -1,5 +1,4 @@
 -- The theorems over all calls.
-pub mod States
 pub mod Answers
 pub mod SeenAs
 pub mod Decisions

@@ -65,11 +65,11 @@ wrote (on-channel c) k m g a = go c a
     go (screen c text) a = same
 
 -- **outside-kept**: every byte outside what the call writes is what it was, and so is the memory's length.
-pub outside-kept : {c : Call} {s : State} {l : Loan} {g : Given} → Answered c s l g → SameOutside (written-by c (seen s)) (l .memory .bytes) (g .memory)
+pub outside-kept : {c : Call} {s : State} {l : Loan} {g : Given} → Answered c s l g → SameOutside (written-by c (seen (s .words))) (l .memory .bytes) (g .memory)
 outside-kept {c} {s} {l} {g} a = go (says c s l (a .sound)) refl (by a (a .sound) (a .decided))
   where
-    go : (o : Option ℤ) → says c s l (a .sound) ≡ o → By c s l g (a .sound) o → SameOutside (written-by c (seen s)) (l .memory .bytes) (g .memory)
-    go (some x) e h = subst (SameOutside (written-by c (seen s)) (l .memory .bytes)) (sym (h .memory)) same
+    go : (o : Option ℤ) → says c s l (a .sound) ≡ o → By c s l g (a .sound) o → SameOutside (written-by c (seen (s .words))) (l .memory .bytes) (g .memory)
+    go (some x) e h = subst (SameOutside (written-by c (seen (s .words))) (l .memory .bytes)) (sym (h .memory)) same
     go none e h =
-        let t = allowed (handed (a .sound) s (l .memory .bytes)) c e in
-        subst (SameOutside (written-by c (seen s)) (l .memory .bytes)) (sym (h .memory)) (wrote c (seen s) (l .memory .bytes) (a .decided .0 (t .sound) .good) (t .allowed))
+        let t = allowed (handed (a .sound) (s .words) (l .memory .bytes)) c e in
+        subst (SameOutside (written-by c (seen (s .words))) (l .memory .bytes)) (sym (h .memory)) (wrote c (seen (s .words)) (l .memory .bytes) (a .decided .0 (t .sound) .good) (t .allowed))

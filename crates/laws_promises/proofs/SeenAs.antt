@@ -16,14 +16,14 @@ use Rattle.laws_promises.proofs.Answers.{By, says, by}
 -- What a call gave back is the outcome o, as far as it is seen.
 pub record SeenAs (o : Outcome) (l : Loan) (g : Given) : Type 0 where
   pub answer : said (g .reply .answer) ≡ o .answer
-  pub kernel : seen (g .reply .state) ≡ o .kernel
+  pub kernel : seen (g .reply .state .words) ≡ o .kernel
   pub memory : g .memory ≡ o .memory
   pub shown : g .shown ≡ handed-back (o .shown) l
 
-pub as-step : {c : Call} {s : State} {l : Loan} {g : Given} → Answered c s l g → Sound s → SeenAs (step c (handed true s (l .memory .bytes))) l g
+pub as-step : {c : Call} {s : State} {l : Loan} {g : Given} → Answered c s l g → Sound (s .words) → SeenAs (step c (handed true (s .words) (l .memory .bytes))) l g
 unfolding step
 as-step {c} {s} {l} {g} a w = go (says c s l true) (by a true (truly w))
   where
-    go : (o : Option ℤ) → By c s l g true o → SeenAs (by-table o (effect c (seen s) (l .memory .bytes)) (handed true s (l .memory .bytes))) l g
+    go : (o : Option ℤ) → By c s l g true o → SeenAs (by-table o (effect c (seen (s .words)) (l .memory .bytes)) (handed true (s .words) (l .memory .bytes))) l g
     go (some x) h = record { answer = h .answer; kernel = ap seen (h .state); memory = h .memory; shown = h .shown }
     go none h = record { answer = h .answer; kernel = h .state .is; memory = h .memory; shown = h .shown }

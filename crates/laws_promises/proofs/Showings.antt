@@ -15,23 +15,23 @@ use Rattle.kernel.proofs.Said.{done-refused}
 use Rattle.laws_promises.proofs.Answers.{By, says, by}
 
 module _ {c : Call} {s : State} {l : Loan} {g : Given} (a : Answered c s l g) where
-  gave : {v : ℤ} → said (g .reply .answer) ≡ success v → g .shown ≡ handed-back (effect c (seen s) (l .memory .bytes) .shown) l
+  gave : {v : ℤ} → said (g .reply .answer) ≡ success v → g .shown ≡ handed-back (effect c (seen (s .words)) (l .memory .bytes) .shown) l
   gave {v} e = go (says c s l (a .sound)) (by a (a .sound) (a .decided))
     where
-      go : (o : Option ℤ) → By c s l g (a .sound) o → g .shown ≡ handed-back (effect c (seen s) (l .memory .bytes) .shown) l
+      go : (o : Option ℤ) → By c s l g (a .sound) o → g .shown ≡ handed-back (effect c (seen (s .words)) (l .memory .bytes) .shown) l
       go none h = h .shown
       go (some x) h = absurd (done-refused (sym e ∙ h .answer))
 
-  gave-instead : {x : ℤ} → said (g .reply .answer) ≡ refused x → g .shown ≡ handed-back (effect c (seen s) (l .memory .bytes) .instead) l
+  gave-instead : {x : ℤ} → said (g .reply .answer) ≡ refused x → g .shown ≡ handed-back (effect c (seen (s .words)) (l .memory .bytes) .instead) l
   gave-instead {x} e = go (says c s l (a .sound)) (by a (a .sound) (a .decided))
     where
-      go : (o : Option ℤ) → By c s l g (a .sound) o → g .shown ≡ handed-back (effect c (seen s) (l .memory .bytes) .instead) l
+      go : (o : Option ℤ) → By c s l g (a .sound) o → g .shown ≡ handed-back (effect c (seen (s .words)) (l .memory .bytes) .instead) l
       go none h = absurd (done-refused (sym (h .answer) ∙ e))
       go (some y) h = h .shown
 
 -- The message of the buffer that the running task's session on channel c holds, as a part of the lent memory.
 abbrev pub held-message : State → ℕ → Loan → Slice
-held-message s c l = part-of (l .memory) (buffer-start c (buffer (own (seen s) c))) (channel (seen s) c .size)
+held-message s c l = part-of (l .memory) (buffer-start c (buffer (own (seen (s .words)) c))) (channel (seen (s .words)) c .size)
 
 -- **message-shown**: accepted, both hand back that message, in its place; **empty-shown**: refused, a showing hands back the empty part at
 -- the start of the memory; **standby-shown**: and the screen call the stand-by text itself.

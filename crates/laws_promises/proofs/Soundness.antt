@@ -1,9 +1,9 @@
--- Whether a state is sound is decided, clause by clause. Assumes nothing.
+-- Whether words are sound is decided, clause by clause. Assumes nothing.
 use mathlib.Core.Path.{_≡_, refl, ap, sym, subst, _∙_}
-use mathlib.Core.Bool.{true, false, Bool-discrete, false≢true}
+use mathlib.Core.Bool.{true, Bool-discrete, false≢true}
 use mathlib.Core.Logic.{inl, inr, ⊎-elim, Dec·and}
 use mathlib.Core.List.{List, [], _∷_}
-use Prim.Native.Nat.{ℕ, _+_, _*_, _≤_, _<_}
+use Prim.Native.Nat.{ℕ, _≤_, _<_}
 use native.Mathlib.Omega.{arith}
 use native.Mathlib.Decide.{ℕ-discrete, decLe, decLt, map-dec}
 use lib.IntN.{ℤ, pos, ℤ-discrete}
@@ -20,14 +20,25 @@ use Rattle.kernel.specs.declared.Latest.{Latest}
 use Rattle.kernel.specs.declared.Latest.the-variants.{Nothing, Buffer}
 use Rattle.kernel.specs.declared.Session.{Session}
 use Rattle.kernel.specs.declared.Session.the-variants.{Closed, Write, Reading}
-use Rattle.kernel.specs.declared.State.{State}
-use Rattle.kernel.specs.Sizes.{task-count, semaphore-count, channel-count, fitting, last-priority, main-priority, highest-count, longest-message, fewest-buffers, most-buffers, nrt-deadline, lifetime, whole}
-use Rattle.kernel.specs.Status.{FREE, READY, EXE, IDLE, WAIT, ZOMBIE, status-number, queue-count, ready-queue, waiters, stop-number}
+use Rattle.kernel.specs.Sizes.{task-count, semaphore-count, channel-count, fitting, last-priority}
+use Rattle.kernel.specs.Status.{status-number, queue-count, ready-queue, waiters}
 use Rattle.kernel.specs.Kernel.{Bare, Kernel, task, queue, semaphore, channel, session, hard}
-use Rattle.kernel.specs.Seen.{next-of, previous-of, head-of, seen}
-use Rattle.kernel.specs.Good.{Sized, Fits, Timely, Names, MainOrSized, Suited, GoodTask, NoLater, Runs, Shared, shares, Counted, Unused, Used, Opens, GoodSession, GoodChannel, Clocked, Good, standing, deadline-of}
+use Rattle.kernel.specs.Good.{Sized, Fits, Timely, Names, MainOrSized, Suited, GoodTask, NoLater, Runs, Shared, Counted, Unused, Used, Opens, GoodSession, GoodChannel, Clocked, Good, standing, deadline-of}
+use Rattle.kernel.specs.Layout.{word, stop-at, record-size, field, spare-word, word-count}
+use Rattle.kernel.specs.Seen.{next-in, previous-in, head-in, seen}
+use Rattle.kernel.specs.Form.{Formed}
 use Rattle.kernel.specs.Sound.{Filed, Sound}
 use Rattle.laws_promises.proofs.Decisions.{never, part, where-so, exactly-where, one-or-other, each-below, each-of}
+
+-- A record is decided as its fields together are.
+by-fields : {A R : Type 0} → (R → A) → Dec A → (A → R) → Dec R
+by-fields fields d made = map-dec made fields d
+
+both : {A B R : Type 0} → (R → A) → (R → B) → R → A × B
+both f g r = (f r, g r)
+
+-- What is decided of numbers, flags, and what is made of such.
+ruleset deciding = (ℕ-discrete, decLe, decLt, Bool-discrete, Dec·and, never, where-so, exactly-where, one-or-other)
 
 -- ---- queues and links
 
@@ -45,33 +56,25 @@ rising? deadline (x ∷ xs) = Dec·and (each-of (λ y. decLe (deadline x) (deadl
 
 queue? : (n : ℕ) (standing deadline : ℕ → ℕ) (q : ℕ) (xs : List ℕ) → Dec (Queue n standing deadline q xs)
 queue? n standing deadline q xs =
-    part (λ r. r .only) (each-of (λ x. Dec·and (decLt x n) (ℕ-discrete (standing x) q)) xs) λ only.
-    part (λ r. r .all) (each-below n (λ x. where-so (ℕ-discrete (standing x) q) (among? x xs))) λ all.
-    part (λ r. r .once) (once? xs) λ once.
-    part (λ r. r .rising) (rising? deadline xs) λ rising.
-    yes (record { only = only; all = all; once = once; rising = rising })
+    let only = each-of (λ x. Dec·and (decLt x n) (ℕ-discrete (standing x) q)) xs in
+    let all = each-below n (λ x. where-so (ℕ-discrete (standing x) q) (among? x xs)) in
+    by-fields (λ r. (r .only, (r .all, (r .once, r .rising)))) (Dec·and only (Dec·and all (Dec·and (once? xs) (rising? deadline xs)))) (λ h. search)
 
 stretch? : (n : ℕ) (next previous : ℕ → ℤ) (back head : ℤ) (xs : List ℕ) → Dec (Stretch n next previous end back head xs)
 stretch? n next previous back head [] = ℤ-discrete head end
 stretch? n next previous back head (x ∷ xs) =
-    part (λ s. s .0) (decLt x n) λ task.
-    part (λ s. s .1) (ℤ-discrete head (pos x)) λ leads.
-    part (λ s. s .2) (ℤ-discrete (previous x) back) λ back-link.
-    part (λ s. s .3) (stretch? n next previous (pos x) (next x) xs) λ rest.
-    yes (task, leads, back-link, rest)
+    by-fields (λ s. (s .0, (s .1, (s .2, s .3))))
+    (Dec·and (decLt x n) (Dec·and (ℤ-discrete head (pos x)) (Dec·and (ℤ-discrete (previous x) back) (stretch? n next previous (pos x) (next x) xs)))) (λ h. search)
 
-filed? : (s : State) → Dec (Filed s)
-filed? s =
-    let next = next-of (s .tasks) in
-    let previous = previous-of (s .tasks) in
-    let alone : (link : ℕ → ℤ) → Dec ((x : ℕ) → x < task-count → queue-count ≤ standing (seen s) x → link x ≡ end) =
-    λ link. each-below task-count (λ x. where-so (decLe queue-count (standing (seen s) x)) (ℤ-discrete (link x) end)) in
-    let chain : (q : ℕ) → Dec (Chain task-count next previous (head-of (s .heads) q) (queue (seen s) q)) =
-    λ q. map-dec (λ w. record { whole = w }) (λ c. c .whole) (stretch? task-count next previous end (head-of (s .heads) q) (queue (seen s) q)) in
-    part (λ r. r .linked) (each-below queue-count chain) λ linked.
-    part (λ r. r .alone-next) (alone next) λ alone-next.
-    part (λ r. r .alone-previous) (alone previous) λ alone-previous.
-    yes (record { linked = linked; alone-next = alone-next; alone-previous = alone-previous })
+filed? : (w : List ℕ) → Dec (Filed w)
+filed? w =
+    let next = next-in w in
+    let previous = previous-in w in
+    let alone : (link : ℕ → ℤ) → Dec ((x : ℕ) → x < task-count → queue-count ≤ standing (seen w) x → link x ≡ end) =
+    λ link. each-below task-count (λ x. where-so (decLe queue-count (standing (seen w) x)) (ℤ-discrete (link x) end)) in
+    let chain : (q : ℕ) → Dec (Chain task-count next previous (head-in w q) (queue (seen w) q)) =
+    λ q. map-dec (λ whole. record { whole = whole }) (λ c. c .whole) (stretch? task-count next previous end (head-in w q) (queue (seen w) q)) in
+    by-fields (λ r. (r .linked, (r .alone-next, r .alone-previous))) (Dec·and (each-below queue-count chain) (Dec·and (alone next) (alone previous))) (λ h. search)
 
 -- ---- tasks
 
@@ -79,31 +82,19 @@ nrt? : (c : Class) (p : ℕ) → Dec (c ≡ Nrt p)
 nrt? (Hard a b) p = no (λ e. false≢true (sym (ap hard e)))
 nrt? (Nrt a) p = map-dec (ap Nrt) (λ e. cc) (ℕ-discrete a p)
 
-is-hard? : (c : Class) → Dec (hard c ≡ true)
-is-hard? c = Bool-discrete (hard c) true
-
 fits? : (c : Class) → Dec (Fits c)
 fits? (Hard p c) = Bool-discrete (fitting p c) true
 fits? (Nrt p) = decLe p last-priority
 
 main-or-sized? : (x : ℕ) (c : Class) (n : ℕ) → Dec (MainOrSized x c n)
-main-or-sized? x c n =
-    part (λ r. r .main-class) (where-so (ℕ-discrete x 0) (nrt? c main-priority)) λ main-class.
-    part (λ r. r .main-status) (where-so (ℕ-discrete x 0) (one-or-other (ℕ-discrete n EXE) (ℕ-discrete n READY))) λ main-status.
-    part (λ r. r .fits) (where-so (where-so (ℕ-discrete x 0) never) (fits? c)) λ fits.
-    yes (record { main-class = main-class; main-status = main-status; fits = fits })
+main-or-sized? x c n = by-fields (both (λ r. r .main-class) (both (λ r. r .main-status) (λ r. r .fits))) (search (deciding, nrt?, fits? c)) (λ h. search)
 
 timely? : (clock : ℕ) (c : Class) (n d : ℕ) → Dec (Timely clock c n d)
-timely? clock (Hard p c) n d = decLe d (clock + p)
-timely? clock (Nrt p) n d = Dec·and (where-so (ℕ-discrete n FREE) (ℕ-discrete d 0)) (where-so (where-so (ℕ-discrete n FREE) never) (ℕ-discrete d (nrt-deadline p)))
+timely? clock (Hard p c) n d = search deciding
+timely? clock (Nrt p) n d = search deciding
 
 suited? : (c : Class) (n : ℕ) → Dec (Suited c n)
-suited? c n =
-    part (λ r. r .free) (where-so (ℕ-discrete n FREE) (nrt? c 0)) λ free.
-    part (λ r. r .hard-never-waits) (where-so (is-hard? c) (where-so (ℕ-discrete n WAIT) never)) λ hard-never-waits.
-    part (λ r. r .idle-hard) (where-so (ℕ-discrete n IDLE) (is-hard? c)) λ idle-hard.
-    part (λ r. r .zombie-hard) (where-so (ℕ-discrete n ZOMBIE) (is-hard? c)) λ zombie-hard.
-    yes (record { free = free; hard-never-waits = hard-never-waits; idle-hard = idle-hard; zombie-hard = zombie-hard })
+suited? c n = by-fields (both (λ r. r .free) (both (λ r. r .hard-never-waits) (both (λ r. r .idle-hard) (λ r. r .zombie-hard)))) (search (deciding, nrt?)) (λ h. search)
 
 names? : (k : Kernel) (t : Status) → Dec (Names k t)
 names? k (Wait s) = Dec·and (decLt (s .0) semaphore-count) (Bool-discrete (semaphore k (s .0) .used) true)
@@ -117,13 +108,8 @@ names? k Zombie = yes tt
 task? : (k : Kernel) (x : ℕ) (a : Bare) → Dec (GoodTask k x a)
 task? k x a =
     let n = status-number (a .status) in
-    part (λ r. r .exe) (exactly-where (ℕ-discrete n EXE) (ℕ-discrete x (k .running))) λ exe.
-    part (λ r. r .main-or-sized) (main-or-sized? x (a .class) n) λ main-or-sized.
-    part (λ r. r .timely) (timely? (k .clock) (a .class) n (a .deadline)) λ timely.
-    part (λ r. r .suited) (suited? (a .class) n) λ suited.
-    part (λ r. r .waits) (names? k (a .status)) λ waits.
-    part (λ r. r .idle-ahead) (where-so (ℕ-discrete (stop-number (k .stop)) 0) (where-so (ℕ-discrete n IDLE) (decLt (k .clock) (a .deadline)))) λ idle-ahead.
-    yes (record { exe = exe; main-or-sized = main-or-sized; timely = timely; suited = suited; waits = waits; idle-ahead = idle-ahead })
+    by-fields (both (λ r. r .exe) (both (λ r. r .main-or-sized) (both (λ r. r .timely) (both (λ r. r .suited) (both (λ r. r .waits) (λ r. r .idle-ahead))))))
+    (search (deciding, main-or-sized?, timely? (k .clock) (a .class) n (a .deadline), suited?, names? k (a .status)) depth 9) (λ h. search)
 
 -- ---- the running task, shares, the clock
 
@@ -134,22 +120,13 @@ no-later? k d (x ∷ xs) = decLe d (task k x .deadline)
 runs? : (k : Kernel) → Dec (Runs k)
 runs? k =
     let a = task k (k .running) in
-    part (λ r. r .running) (decLt (k .running) task-count) λ running.
-    part (λ r. r .earliest) (no-later? k (a .deadline) (queue k ready-queue)) λ earliest.
-    part (λ r. r .in-time) (where-so (ℕ-discrete (stop-number (k .stop)) 0) (where-so (is-hard? (a .class)) (decLe (k .clock) (a .deadline)))) λ in-time.
-    yes (record { running = running; earliest = earliest; in-time = in-time })
+    by-fields (both (λ r. r .running) (both (λ r. r .earliest) (λ r. r .in-time))) (search (deciding, no-later? k (a .deadline) (queue k ready-queue))) (λ h. search)
 
 shared? : (k : Kernel) → Dec (Shared k)
-shared? k =
-    part (λ r. r .total-is) (ℕ-discrete (k .total) (shares (k .tasks))) λ share.
-    part (λ r. r .total-fits) (decLe (k .total) whole) λ share-fits.
-    yes (record { total-is = share; total-fits = share-fits })
+shared? k = by-fields (both (λ r. r .total-is) (λ r. r .total-fits)) (search deciding) (λ h. search)
 
 clocked? : (k : Kernel) → Dec (Clocked k)
-clocked? k =
-    part (λ r. r .clock) (decLe (k .clock) lifetime) λ clock.
-    part (λ r. r .expired) (exactly-where (ℕ-discrete (k .clock) lifetime) (ℕ-discrete (stop-number (k .stop)) 2)) λ expired.
-    yes (record { clock = clock; expired = expired })
+clocked? k = by-fields (both (λ r. r .clock) (λ r. r .expired)) (search deciding) (λ h. search)
 
 -- ---- semaphores
 
@@ -158,13 +135,7 @@ empty? [] = yes refl
 empty? (x ∷ xs) = no (λ e. omega (arith, ap length e))
 
 counted? : {none : Type 0} (a : Semaphore) → Dec none → Dec (Counted a none)
-counted? a d =
-    let unused = Bool-discrete (a .used) false in
-    part (λ r. r .fits) (decLe (a .count) highest-count) λ fits.
-    part (λ r. r .counting) (where-so (decLt 0 (a .count)) d) λ counting.
-    part (λ r. r .unused-count) (where-so unused (ℕ-discrete (a .count) 0)) λ unused-count.
-    part (λ r. r .unused-waiters) (where-so unused d) λ unused-waiters.
-    yes (record { fits = fits; counting = counting; unused-count = unused-count; unused-waiters = unused-waiters })
+counted? a d = by-fields (both (λ r. r .fits) (both (λ r. r .counting) (both (λ r. r .unused-count) (λ r. r .unused-waiters)))) (search deciding) (λ h. search)
 
 -- ---- channels
 
@@ -204,25 +175,13 @@ module _ {P : ℕ → Type 0} (d : (b : ℕ) → Dec (P b)) where
       yes (λ b. ⊎-elim (writes b) (reads b))
 
 unused? : (k : Kernel) (c : ℕ) → Dec (Unused k c)
-unused? k c =
-    part (λ r. r .buffers) (ℕ-discrete (channel k c .buffers) 0) λ buffers.
-    part (λ r. r .latest) (nothing? (channel k c .latest)) λ latest.
-    part (λ r. r .sessions) (each-below task-count (λ t. closed? (session k c t))) λ sessions.
-    yes (record { buffers = buffers; latest = latest; sessions = sessions })
+unused? k c = by-fields (both (λ r. r .buffers) (both (λ r. r .latest) (λ r. r .sessions))) (search (deciding, nothing?, each-below task-count (λ t. closed? (session k c t)))) (λ h. search)
 
 used? : (k : Kernel) (c : ℕ) → Dec (Used k c)
-used? k c =
-    part (λ r. r .size) (decLe (channel k c .size) longest-message) λ size.
-    part (λ r. r .fewest) (decLe fewest-buffers (channel k c .buffers)) λ fewest.
-    part (λ r. r .most) (decLe (channel k c .buffers) most-buffers) λ most.
-    yes (record { size = size; fewest = fewest; most = most })
+used? k c = by-fields (both (λ r. r .size) (both (λ r. r .fewest) (λ r. r .most))) (search deciding) (λ h. search)
 
 session? : (n b buffers : ℕ) → Dec (GoodSession n b buffers)
-session? n b buffers =
-    part (λ r. r .not-free) (where-so (ℕ-discrete n FREE) never) λ not-free.
-    part (λ r. r .not-zombie) (where-so (ℕ-discrete n ZOMBIE) never) λ not-zombie.
-    part (λ r. r .named) (decLt b buffers) λ named.
-    yes (record { not-free = not-free; not-zombie = not-zombie; named = named })
+session? n b buffers = by-fields (both (λ r. r .not-free) (both (λ r. r .not-zombie) (λ r. r .named))) (search deciding) (λ h. search)
 
 channel? : (k : Kernel) (c : ℕ) → Dec (GoodChannel k c)
 channel? k c =
@@ -253,30 +212,25 @@ channel? k c =
 
 -- ---- all of it
 
+formed? : (w : List ℕ) → Dec (Formed w)
+formed? w =
+    part (λ r. r .long) (ℕ-discrete (length w) word-count) λ long.
+    part (λ r. r .stop) (decLe (word w stop-at) 2) λ stop.
+    part (λ r x l f m s. r .spare x f l s m) (each-below task-count (λ x. each-below record-size (λ f. where-so (decLe spare-word f) (ℕ-discrete (word w (field x f)) 0)))) λ spare.
+    yes (record { long = long; stop = stop; spare = λ x f l s m. spare x l f m s })
+
 sized? : (k : Kernel) → Dec (Sized k)
-sized? k =
-    part (λ r. r .tasks) (ℕ-discrete (length (k .tasks)) task-count) λ tasks.
-    part (λ r. r .queues) (ℕ-discrete (length (k .queues)) queue-count) λ queues.
-    part (λ r. r .semaphores) (ℕ-discrete (length (k .semaphores)) semaphore-count) λ semaphores.
-    part (λ r. r .channels) (ℕ-discrete (length (k .channels)) channel-count) λ channels.
-    part (λ r. r .sessions) (ℕ-discrete (length (k .sessions)) (task-count * channel-count)) λ sessions.
-    yes (record { tasks = tasks; queues = queues; semaphores = semaphores; channels = channels; sessions = sessions })
+sized? k = by-fields (both (λ r. r .tasks) (both (λ r. r .queues) (both (λ r. r .semaphores) (both (λ r. r .channels) (λ r. r .sessions))))) (search deciding) (λ h. search)
 
 good? : (k : Kernel) → Dec (Good k)
 good? k =
-    part (λ r. r .sized) (sized? k) λ sized.
-    part (λ r. r .tasks) (each-below task-count (λ x. task? k x (task k x))) λ tasks.
-    part (λ r. r .runs) (runs? k) λ runs.
-    part (λ r. r .queues) (each-below queue-count (λ q. queue? task-count (standing k) (deadline-of k) q (queue k q))) λ queues.
-    part (λ r. r .shared) (shared? k) λ shared.
-    part (λ r. r .semaphores) (each-below semaphore-count (λ s. counted? (semaphore k s) (empty? (queue k (waiters s))))) λ semaphores.
-    part (λ r. r .channels) (each-below channel-count (channel? k)) λ channels.
-    part (λ r. r .clocked) (clocked? k) λ clocked.
-    yes (record { sized = sized; tasks = tasks; runs = runs; queues = queues; shared = shared; semaphores = semaphores; channels = channels; clocked = clocked })
+    let tasks = each-below task-count (λ x. task? k x (task k x)) in
+    let queues = each-below queue-count (λ q. queue? task-count (standing k) (deadline-of k) q (queue k q)) in
+    let semaphores = each-below semaphore-count (λ s. counted? (semaphore k s) (empty? (queue k (waiters s)))) in
+    let channels = each-below channel-count (channel? k) in
+    by-fields (λ r. (r .sized, (r .runs, (r .shared, (r .clocked, (r .tasks, (r .queues, (r .semaphores, r .channels))))))))
+    (Dec·and (sized? k) (Dec·and (runs? k) (Dec·and (shared? k) (Dec·and (clocked? k) (Dec·and tasks (Dec·and queues (Dec·and semaphores channels))))))) (λ h. search)
 
--- **sound?**: a state is sound or not, whatever is in it.
-pub sound? : (s : State) → Dec (Sound s)
-sound? s =
-    part (λ r. r .filed) (filed? s) λ filed.
-    part (λ r. r .good) (good? (seen s)) λ good.
-    yes (record { filed = filed; good = good })
+-- **sound?**: words are sound or not, whatever they are.
+pub sound? : (w : List ℕ) → Dec (Sound w)
+sound? w = by-fields (λ r. (r .formed, (r .filed, r .good))) (Dec·and (formed? w) (Dec·and (filed? w) (good? (seen w)))) (λ h. search)

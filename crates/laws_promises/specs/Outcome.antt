@@ -13,7 +13,7 @@ use Rattle.kernel.specs.Promise.{handed-back, Loan, Given, Answered}
 -- What is given is what the effect e says: its number, no refusal, its kernel, its memory, and what it hands back.
 pub record TookEffect (e : Effect) (l : Loan) (g : Given) : Type 0 where
   pub answer : said (g .reply .answer) ≡ success (e .number)
-  pub state : Shows (g .reply .state) (e .kernel)
+  pub state : Shows (g .reply .state .words) (e .kernel)
   pub memory : g .memory ≡ e .memory
   pub shown : g .shown ≡ handed-back (e .shown) l
 

@@ -5,14 +5,18 @@ use mathlib.Core.Logic.{_↔_}
 use mathlib.Core.List.{List}
 use Prim.Native.Nat.{ℕ, _+_, _<_}
 use lib.IntN.{pos}
+use lib.ListN.{set}
 use Rattle.kernel.specs.declared.Stop.{Stop}
 use Rattle.kernel.specs.declared.Stop.the-variants.{Going, Overrun, Lifetime}
 use Rattle.kernel.specs.declared.State.{State}
 use Rattle.kernel.specs.declared.Reply.{Reply}
 use Rattle.kernel.specs.Answer.{success, said}
 use Rattle.kernel.specs.Sizes.{lifetime}
+use Rattle.kernel.specs.Status.{stop-number}
 use Rattle.kernel.specs.Kernel.{Kernel, task, hard, with-clock, with-stop}
+use Rattle.kernel.specs.Layout.{word, clock-at, stop-at}
 use Rattle.kernel.specs.Seen.{seen}
+use Rattle.kernel.specs.Promise.{runs}
 
 -- Clock + 1 is lifetime.
 abbrev pub AtLifetime : Kernel → Type 0
@@ -36,28 +40,18 @@ pub record Ticked (k j : Kernel) : Type 0 where
   -- a stop changes only clock and stop reason
   pub only : (j .stop ≡ Going → ⊥) → j ≡ with-stop (with-clock k (k .clock + 1)) (j .stop)
 
--- The state s with this clock and stop reason. All else is as it was, links and heads too.
-abbrev pub stopped : State → ℕ → Stop → State
-stopped s clock w =
-    record {
-      clock = clock;
-      stop = w;
-      running = s .running;
-      total = s .total;
-      tasks = s .tasks;
-      heads = s .heads;
-      semaphores = s .semaphores;
-      channels = s .channels;
-      sessions = s .sessions;
-    }
+-- The words w with this clock and stop reason.
+abbrev pub stopped : List ℕ → ℕ → Stop → List ℕ
+stopped w clock x = set (set w clock-at clock) stop-at (stop-number x)
 
 -- A tick stopped the kernel: handed the state s, which was not stopped, it gave the reply r. The memory held the bytes m, and is left with these.
 pub record StopOnly (s : State) (m : List ℕ) (r : Reply) (left : List ℕ) : Type 0 where
   -- there is that reason
-  pub reason : Reason (seen s) (r .state .stop)
-  -- only clock and stop reason have changed
-  pub state : r .state ≡ stopped s (s .clock + 1) (r .state .stop)
-  pub running : r .running ≡ s .running
+  pub reason : Reason (seen (s .words)) (seen (r .state .words) .stop)
+  -- only clock and stop reason have changed: every other word is as it was, those of links and heads too
+  pub state : r .state .words ≡ stopped (s .words) (seen (s .words) .clock + 1) (seen (r .state .words) .stop)
+  pub others : (j : ℕ) → (j ≡ clock-at → ⊥) → (j ≡ stop-at → ⊥) → word (r .state .words) j ≡ word (s .words) j
+  pub running : r .running ≡ runs (s .words)
   pub memory : left ≡ m
   -- the tick that stops is no refusal and answers 0
   pub answer : said (r .answer) ≡ success (pos 0)

@@ -1,5 +1,6 @@
--- Words and kernels: sound words are determined by the kernel that is seen in them, and every good kernel has its words.
+-- Words and kernels: sound words are determined by the kernel that is seen in them, every good kernel has its words, and so has the fresh one.
 pub mod Ranges
 pub mod Determined
 pub mod Shown
 pub mod Width
+pub mod Fresh

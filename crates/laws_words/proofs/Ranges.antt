@@ -6,7 +6,7 @@ use native.Mathlib.Nat.{div-add-mod', mod-lt}
 use native.Mathlib.Decide.{decLt}
 use Rattle.kernel.specs.Sizes.{task-count, semaphore-count, channel-count}
 use Rattle.kernel.specs.Status.{queue-count}
-use Rattle.words.specs.Layout.{heads-at, head-at, semaphores-at, semaphore-at, tasks-at, record-size, field, sessions-at, session-at, channels-at, channel-at, word-count}
+use Rattle.kernel.specs.Layout.{heads-at, head-at, semaphores-at, semaphore-at, tasks-at, record-size, field, sessions-at, session-at, channels-at, channel-at, word-count}
 
 pub record Ranges (P : ℕ → Type 0) : Type 0 where
   pub numbers : (j : ℕ) → j < heads-at → P j

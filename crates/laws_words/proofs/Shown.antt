@@ -2,10 +2,10 @@
 use mathlib.Core.Path.{_≡_, refl, ap, sym, subst, _∙_}
 use mathlib.Core.Bool.{cond}
 use mathlib.Core.List.{List, [], _∷_}
-use mathlib.Core.Logic.{inl}
+use mathlib.Core.Logic.{inl, dite}
 use Prim.Native.Nat.{ℕ, zero, suc, _+_, _-_, _*_, _/_, _%_, _≤_, _<_}
 use native.Mathlib.Omega.{arith}
-use native.Mathlib.Nat.{div-add-mod', mod-lt, mul-comm}
+use native.Mathlib.Nat.{div-add-mod', mod-lt, mul-comm, add-sub-cancel-left}
 use native.Mathlib.Decide.{ℕ-discrete, decLt}
 use lib.ListN.{length, getD, List·getD-eq-default}
 use lib.Seq.{ext-getD}
@@ -19,22 +19,20 @@ use Rattle.laws_chain.proofs.Stretch.{found}
 use Rattle.laws_chain.proofs.Laid.{after, before, laid}
 use Rattle.kernel.specs.declared.Class.{Class}
 use Rattle.kernel.specs.declared.Class.the-variants.{Nrt, Hard}
-use Rattle.kernel.specs.declared.Stop.{Stop}
-use Rattle.kernel.specs.declared.Stop.the-variants.{Going, Overrun, Lifetime}
 use Rattle.kernel.specs.declared.Session.the-variants.{Closed}
 use Rattle.kernel.specs.Sizes.{task-count, semaphore-count, channel-count, most-buffers}
 use Rattle.kernel.specs.Status.{queue-count, stop-number}
 use Rattle.kernel.specs.Kernel.{Kernel, task, queue, semaphore, channel, session, slot, slot-number, blank, unused-semaphore, unused-channel}
-use Rattle.kernel.specs.Good.{Good, GoodChannel, Opens, Fits, standing, Queued}
+use Rattle.kernel.specs.Good.{Good, Opens, Fits, standing, Queued}
 use Rattle.kernel.proofs.Decided.{either}
 use Rattle.kernel.proofs.Places.{numbered}
 use Rattle.kernel.proofs.Sizes.{sizes}
-use Rattle.words.specs.Layout.{word, heads-at, head-at, semaphores-at, semaphore-at, tasks-at, record-size, field, spare-word, sessions-at, session-at, channels-at, channel-at, word-count}
-use Rattle.words.specs.Codes.{link, link-code, class-of, period-code, amount-code, status-of, status-code, stop-of, semaphore-of, semaphore-code, latest-of, latest-code, session-of, session-code}
-use Rattle.words.specs.Seen.{tabulate, bare-in, head-in, queue-in, seen}
-use Rattle.words.specs.Sound.{LinksHold}
-use Rattle.words.specs.Shows.{Shows}
-use Rattle.words.proofs.Codes.{link-none, link-some, class-nrt, class-hard, status-read, stop-read, semaphore-read, latest-read, session-read}
+use Rattle.kernel.specs.Layout.{word, heads-at, head-at, semaphores-at, semaphore-at, tasks-at, record-size, field, spare-word, sessions-at, session-at, channels-at, channel-at, word-count}
+use Rattle.kernel.specs.Codes.{link, link-code, Classed, class-of, period-code, amount-code, status-of, status-code, stop-of, semaphore-of, semaphore-code, latest-of, latest-code, session-of, session-code}
+use Rattle.kernel.specs.Seen.{tabulate, bare-in, head-in, queue-in, seen}
+use Rattle.kernel.specs.Sound.{LinksHold}
+use Rattle.kernel.specs.Shows.{Shows}
+use Rattle.kernel.proofs.Codes.{link-none, link-some, class-nrt, class-hard, status-read, stop-read, stop-small, semaphore-read, latest-read, session-read}
 use Rattle.words.proofs.Tables.{tabulate-length, tabulate-at}
 
 -- ---- a kernel's words
@@ -96,16 +94,13 @@ module _ (k : Kernel) where
 
   pub head-word : (q : ℕ) → q < queue-count → word w (head-at q) ≡ link-code (start end (queue k q))
   unfolding code
-  head-word q l =
-      let e : head-at q - heads-at ≡ q = omega arith in
-      at (head-at q) (omega arith) ∙ rw (le-ltb (head-at q) heads-at (omega arith), lt-ltb (head-at q) semaphores-at (omega arith), e) refl
+  head-word q l = at (head-at q) (omega arith) ∙ rw (le-ltb (head-at q) heads-at (omega arith), lt-ltb (head-at q) semaphores-at (omega arith), add-sub-cancel-left) refl
 
   pub semaphore-word : (s : ℕ) → s < semaphore-count → word w (semaphore-at s) ≡ semaphore-code (semaphore k s)
   unfolding code
   semaphore-word s l =
-      let e : semaphore-at s - semaphores-at ≡ s = omega arith in
       at (semaphore-at s) (omega arith)
-      ∙ rw (le-ltb (semaphore-at s) heads-at (omega arith), le-ltb (semaphore-at s) semaphores-at (omega arith), lt-ltb (semaphore-at s) tasks-at (omega arith), e) refl
+      ∙ rw (le-ltb (semaphore-at s) heads-at (omega arith), le-ltb (semaphore-at s) semaphores-at (omega arith), lt-ltb (semaphore-at s) tasks-at (omega arith), add-sub-cancel-left) refl
 
   pub task-word : (x f : ℕ) → x < task-count → f < record-size → word w (field x f) ≡ of-task k x f
   unfolding code
@@ -120,9 +115,8 @@ module _ (k : Kernel) where
   unfolding code
   session-word z l =
       let j = session-at z in
-      let e : j - sessions-at ≡ z = omega arith in
       at j (omega arith)
-      ∙ rw (le-ltb j heads-at (omega arith), le-ltb j semaphores-at (omega arith), le-ltb j tasks-at (omega arith), le-ltb j sessions-at (omega arith), lt-ltb j channels-at (omega arith), e) refl
+      ∙ rw (le-ltb j heads-at (omega arith), le-ltb j semaphores-at (omega arith), le-ltb j tasks-at (omega arith), le-ltb j sessions-at (omega arith), lt-ltb j channels-at (omega arith), add-sub-cancel-left) refl
 
   pub channel-word : (c f : ℕ) → c < channel-count → f < 3 → word w (channel-at c + f) ≡ of-channel k c f
   unfolding code
@@ -166,16 +160,13 @@ module _ (k : Kernel) (g : Good k) where
   ws = words-of k
 
   -- Task 0 is NRT, and others keep the sizes: a period is never 0.
-  class-again : (x : ℕ) → x < task-count → class-of (period-code (task k x .class)) (amount-code (task k x .class)) ≡ task k x .class
-  class-again x l = go (ℕ-discrete x 0)
+  class-again : (x : ℕ) → x < task-count → Classed (task k x .class)
+  class-again x l =
+      dite (ℕ-discrete x 0) (λ e. let m = g .tasks x l .main-or-sized .main-class e in rw m (class-nrt _)) (λ ne. fits (task k x .class) (g .tasks x l .main-or-sized .fits ne))
     where
-      fits : (c : Class) → Fits c → class-of (period-code c) (amount-code c) ≡ c
+      fits : (c : Class) → Fits c → Classed c
       fits (Nrt p) h = class-nrt p
       fits (Hard p c) h = class-hard p c (sizes h .some-period)
-
-      go : Dec (x ≡ 0) → class-of (period-code (task k x .class)) (amount-code (task k x .class)) ≡ task k x .class
-      go (yes e) = let m = g .tasks x l .main-or-sized .main-class e in rw m (class-nrt _)
-      go (no ne) = fits (task k x .class) (g .tasks x l .main-or-sized .fits ne)
 
   bare-again : (x : ℕ) → x < task-count → bare-in ws x ≡ task k x
   bare-again x l =
@@ -189,11 +180,7 @@ module _ (k : Kernel) (g : Good k) where
 
   -- No channel has more buffers than channels can have.
   pub few-buffers : (c : ℕ) → c < channel-count → channel k c .buffers ≤ most-buffers
-  few-buffers c l = go (decLt 0 (channel k c .size)) (g .channels c l)
-    where
-      go : Dec (0 < channel k c .size) → GoodChannel k c → channel k c .buffers ≤ most-buffers
-      go (yes u) h = h .used u .most
-      go (no u) h = omega (arith, h .unused (omega arith) .buffers)
+  few-buffers c l = dite (decLt 0 (channel k c .size)) (λ u. g .channels c l .used u .most) (λ u. omega (arith, g .channels c l .unused (omega arith) .buffers))
 
   -- So no session names another.
   pub few : (z b : ℕ) → z < task-count * channel-count → Opens (getD (k .sessions) z (slot Closed) .session) b → b < most-buffers
@@ -207,18 +194,11 @@ module _ (k : Kernel) (g : Good k) where
       let named = g .channels c lc .sessions t b lt (subst (λ (y : ℕ). Opens (getD (k .sessions) y (slot Closed) .session) b) n o) .named in
       omega (arith, few-buffers c lc, named)
 
-  slot-again : (z : ℕ) → z < task-count * channel-count → session-of (word ws (session-at z)) ≡ getD (k .sessions) z (slot Closed) .session
-  slot-again z l = ap session-of (session-word k z l) ∙ session-read _ (λ b e. few z b l (inl e))
-
   no-queue : (q : ℕ) → queue-count ≤ q → queue k q ≡ []
   no-queue q l = List·getD-eq-default (k .queues) [] (omega (arith, g .sized .queues))
 
   pub tasks-of : (q : ℕ) → Tasks (queue k q)
-  tasks-of q = go (decLt q queue-count)
-    where
-      go : Dec (q < queue-count) → Tasks (queue k q)
-      go (yes l) = all-map (λ x o. o .0) (queue k q) (g .queues q l .only)
-      go (no ne) = let e : queue k q ≡ [] = no-queue q (omega arith) in rw e tt
+  tasks-of q = dite (decLt q queue-count) (λ l. all-map (λ x o. o .0) (queue k q) (g .queues q l .only)) (λ ne. let e : queue k q ≡ [] = no-queue q (omega arith) in rw e tt)
 
   holds : LinksHold ws (standing k) (queue k)
   holds =
@@ -256,7 +236,7 @@ module _ (k : Kernel) (g : Good k) where
               latest = (ap latest-of (channel-word k c 2 l (omega arith)) ∙ latest-read (channel k c .latest)) n;
             }) i;
         sessions =
-            entries (task-count * channel-count) _ (k .sessions) (slot Closed) (g .sized .sessions) (λ z l. ap slot (slot-again z l)) i;
+            entries (task-count * channel-count) _ (k .sessions) (slot Closed) (g .sized .sessions) (λ z l. ap slot (ap session-of (session-word k z l) ∙ session-read _ (λ b e. few z b l (inl e)))) i;
       }
 
   -- **shown**: every good kernel is seen in words, and those are sound.
@@ -267,25 +247,11 @@ module _ (k : Kernel) (g : Good k) where
         kept = record {
           formed = record {
             long = tabulate-length word-count (code k);
-            stop = rw (number-at k 1 (omega arith)) (small (k .stop));
-            spare = λ x f l a b. task-word k x f l b ∙ spare x f a;
+            stop = rw (number-at k 1 (omega arith)) (stop-small (k .stop));
+            spare = λ x f l a b. let e : f ≡ suc (suc (suc (suc (suc (suc (f - spare-word)))))) = omega arith in task-word k x f l b ∙ rw e refl;
           };
           filed = subst (λ (j : Kernel). LinksHold ws (standing j) (queue j)) (sym is) holds;
           queues = subst Queued (sym is) (g .queues);
         };
         is = is;
       }
-    where
-      small : (s : Stop) → stop-number s ≤ 2
-      small Going = omega arith
-      small Overrun = omega arith
-      small Lifetime = omega arith
-
-      spare : (x f : ℕ) → spare-word ≤ f → of-task k x f ≡ 0
-      spare x zero a = absurd (omega arith)
-      spare x (suc zero) a = absurd (omega arith)
-      spare x (suc (suc zero)) a = absurd (omega arith)
-      spare x (suc (suc (suc zero))) a = absurd (omega arith)
-      spare x (suc (suc (suc (suc zero)))) a = absurd (omega arith)
-      spare x (suc (suc (suc (suc (suc zero))))) a = absurd (omega arith)
-      spare x (suc (suc (suc (suc (suc (suc f)))))) a = refl

@@ -1,8 +1,7 @@
 -- The words of a good kernel are words of 32 bits. Assumes nothing.
 use mathlib.Core.Path.{_≡_, refl, subst, sym, _∙_}
-use mathlib.Core.Bool.{Bool, true, false, cond}
-use mathlib.Core.Logic.{inl, inr}
-use Prim.Native.Nat.{ℕ, zero, suc, _+_, _≤_, _<_}
+use mathlib.Core.Logic.{inl, inr, dite}
+use Prim.Native.Nat.{ℕ, zero, suc, _≤_, _<_}
 use native.Mathlib.Omega.{arith}
 use native.Mathlib.Decide.{ℕ-discrete, decLt}
 use lib.IntN.{ℤ, pos}
@@ -12,20 +11,19 @@ use Rattle.kernel.specs.declared.Class.{Class}
 use Rattle.kernel.specs.declared.Class.the-variants.{Nrt, Hard}
 use Rattle.kernel.specs.declared.Status.{Status}
 use Rattle.kernel.specs.declared.Status.the-variants.{Free, Sleep, Exe, Ready, Idle, Zombie, Wait}
-use Rattle.kernel.specs.declared.Stop.{Stop}
-use Rattle.kernel.specs.declared.Stop.the-variants.{Going, Overrun, Lifetime}
-use Rattle.kernel.specs.declared.Semaphore.{Semaphore}
 use Rattle.kernel.specs.declared.Latest.{Latest}
 use Rattle.kernel.specs.declared.Latest.the-variants.{Nothing, Buffer}
 use Rattle.kernel.specs.declared.Session.{Session}
 use Rattle.kernel.specs.declared.Session.the-variants.{Closed, Write, Reading}
-use Rattle.kernel.specs.Sizes.{task-count, channel-count, main-priority, nrt-deadline, most-buffers, highest-count}
-use Rattle.kernel.specs.Status.{FREE, status-number, stop-number}
+use Rattle.kernel.specs.Sizes.{task-count, channel-count, main-priority, nrt-deadline, most-buffers}
+use Rattle.kernel.specs.Status.{FREE, status-number}
 use Rattle.kernel.specs.Kernel.{Kernel, task, queue, semaphore, channel, slot}
 use Rattle.kernel.specs.Good.{Good, Fits, Timely, Names, Opens, standing}
+use Rattle.kernel.proofs.Decided.{either}
 use Rattle.kernel.proofs.Sizes.{sizes}
-use Rattle.words.specs.Layout.{word, word-count}
-use Rattle.words.specs.Codes.{link-code, period-code, amount-code, status-code, semaphore-code, latest-code, session-code}
+use Rattle.kernel.specs.Layout.{word, word-count}
+use Rattle.kernel.specs.Codes.{link-code, period-code, amount-code, status-code, latest-code, session-code}
+use Rattle.kernel.proofs.Codes.{stop-small}
 use Rattle.laws_words.proofs.Ranges.{everywhere}
 use Rattle.laws_words.proofs.Shown.{start-has, after-has, before-has, number, of-task, of-channel, words-of, number-at, head-word, semaphore-word, task-word, session-word, channel-word, few-buffers, few, tasks-of}
 
@@ -43,48 +41,31 @@ task-fit x l = omega arith
 module _ (k : Kernel) (g : Good k) where
   number-fits : (j : ℕ) → Word (number k j)
   number-fits zero = omega (arith, g .clocked .clock)
-  number-fits (suc zero) = small (k .stop)
-    where
-      small : (s : Stop) → Word (stop-number s)
-      small Going = omega arith
-      small Overrun = omega arith
-      small Lifetime = omega arith
+  number-fits (suc zero) = omega (arith, stop-small (k .stop))
   number-fits (suc (suc zero)) = omega (arith, g .runs .running)
   number-fits (suc (suc (suc j))) = omega (arith, g .shared .total-fits)
-
-  semaphore-fits : (a : Semaphore) → a .count ≤ highest-count → Word (semaphore-code a)
-  semaphore-fits a l = go (a .used)
-    where
-      go : (u : Bool) → Word (cond u (a .count + 1) 0)
-      go true = omega arith
-      go false = omega arith
 
   -- A class that keeps the sizes, or that of the main task, and its deadline.
   module _ (x : ℕ) (l : x < task-count) where
     class-fits : (c : Class) → c ≡ task k x .class → Word (period-code c) × Word (amount-code c) × Word (task k x .deadline)
-    class-fits c e = go (ℕ-discrete x 0)
+    class-fits c e =
+        dite (ℕ-discrete x 0)
+        (λ z.
+        let m = e ∙ g .tasks x l .main-or-sized .main-class z in
+        rw m (omega arith, omega arith, nrt main-priority _ _ (omega arith) (rw m at timely)))
+        (λ ne. of c (rw e (g .tasks x l .main-or-sized .fits ne)) timely)
       where
         timely : Timely (k .clock) c (status-number (task k x .status)) (task k x .deadline)
         timely = rw e (g .tasks x l .timely)
 
         nrt : (p n d : ℕ) → p ≤ main-priority → (n ≡ FREE → d ≡ 0) × ((n ≡ FREE → ⊥) → d ≡ nrt-deadline p) → Word d
-        nrt p n d h t = or (ℕ-discrete n FREE)
-          where
-            or : Dec (n ≡ FREE) → Word d
-            or (yes z) = omega (arith, t .0 z)
-            or (no z) = omega (arith, t .1 z)
+        nrt p n d h t = dite (ℕ-discrete n FREE) (λ z. omega (arith, t .0 z)) (λ z. omega (arith, t .1 z))
 
         of : (c : Class) → Fits c → Timely (k .clock) c (status-number (task k x .status)) (task k x .deadline) → Word (period-code c) × Word (amount-code c) × Word (task k x .deadline)
         of (Nrt p) h t = (omega arith, omega arith, nrt p _ _ (omega arith) t)
         of (Hard p c) h t =
             let s = sizes h in
             (omega (arith, s .short-period), omega (arith, s .short-period, s .cost-within), omega (arith, s .short-period, g .clocked .clock, t))
-
-        go : Dec (x ≡ 0) → Word (period-code c) × Word (amount-code c) × Word (task k x .deadline)
-        go (yes z) =
-            let m = e ∙ g .tasks x l .main-or-sized .main-class z in
-            rw m (omega arith, omega arith, nrt main-priority _ _ (omega arith) (rw m at timely))
-        go (no ne) = of c (rw e (g .tasks x l .main-or-sized .fits ne)) timely
 
     status-fits : (st : Status) → Names k st → Word (status-code st)
     status-fits Free h = omega arith
@@ -110,11 +91,7 @@ module _ (k : Kernel) (g : Good k) where
   session-fits (Reading b) h = omega (arith, h b (inr refl))
 
   channel-fits : (c f : ℕ) → c < channel-count → Word (of-channel k c f)
-  channel-fits c zero l = go (decLt 0 (channel k c .size))
-    where
-      go : Dec (0 < channel k c .size) → Word (channel k c .size)
-      go (yes u) = omega (arith, g .channels c l .used u .size)
-      go (no u) = omega arith
+  channel-fits c zero l = dite (decLt 0 (channel k c .size)) (λ u. omega (arith, g .channels c l .used u .size)) (λ u. omega arith)
   channel-fits c (suc zero) l = omega (arith, few-buffers k g c l)
   channel-fits c (suc (suc f)) l = go (channel k c .latest) (g .channels c l .latest)
     where
@@ -129,7 +106,7 @@ module _ (k : Kernel) (g : Good k) where
       (record {
         numbers = λ j l. subst Word (sym (number-at k j l)) (number-fits j);
         heads = λ q l. subst Word (sym (head-word k q l)) (start-has Link (omega arith) task-fit (queue k q) (tasks-of k g q));
-        semaphores = λ s l. subst Word (sym (semaphore-word k s l)) (semaphore-fits (semaphore k s) (g .semaphores s l .fits));
+        semaphores = λ s l. subst Word (sym (semaphore-word k s l)) (either Word (semaphore k s .used) (λ e. omega (arith, g .semaphores s l .fits)) (λ e. omega arith));
         tasks = λ x f l lf. subst Word (sym (task-word k x f l lf)) (task-fits x l f);
         sessions = λ z l. subst Word (sym (session-word k z l)) (session-fits (getD (k .sessions) z (slot Closed) .session) (λ b o. few k g z b l o));
         channels = λ c f l lf. subst Word (sym (channel-word k c f l lf)) (channel-fits c f l);

@@ -1,90 +1,44 @@
-// How long the inner functions take, by timing this program from outside: the orders on standard input are two bytes each. `f` and `b`, with 0, 1, 2 or 3
-// for 0, 8, 16 or 30 tasks in the ready queue: a million times activate and sleep, in front of all or behind equals, in place and without refusals.
-// `t` and any byte: the soundness test, a hundred thousand times, with 31 tasks in the ready queue.
-mod work;
+// How long calls take, by timing this program from outside. Standard input has an order, one byte, and behind it a script, of which the first 60,000 bytes
+// and 4,096 lines that are calls are read. `k`: the calls are made 1,000 times from the fresh kernel, behind the soundness test, refusal rows and work alone.
+// `t`: 100 times, with the test before each call.
+mod packed;
+mod runs;
 
 ghost use Prim.Native.Nat.{_≤_};
+ghost use Rattle.pace.specs.Room.{room};
 use libc::STDIN_FILENO;
+use packed::Packed;
 
-const PAIRS: u64 = 1000000;
+const KNOWN: u64 = 1000;
 
-const TESTS: u64 = 100000;
+const TESTED: u64 = 100;
 
-// A line with what was done, and who runs then.
-fn show(order: &[u8], queued: usize, times: u64, running: usize) {
+// Makes the calls so often, and prints how many there are, and the check number of answers and running tasks over one run.
+fn show(order: &[u8], script: Packed, tested: bool, times: u64)
+    requires { ⌜ script .count ≤ room ⌝ }
+{
+    let check = runs::made(script, tested, times);
     test_lines::write(order);
-    test_lines::number(queued as u64);
-    test_lines::write(b" queued, ");
+    test_lines::number(script.count as u64);
+    test_lines::write(b" calls, ");
     test_lines::number(times);
-    test_lines::write(b" times, task ");
-    test_lines::number(running as u64);
-    test_lines::write(b" runs\n");
-}
-
-fn queued_by(crowd: u8) -> usize
-    ensures { λ r. ⌜ r ≤ 30 ⌝ }
-{
-    match crowd {
-        49 => 8,
-        50 => 16,
-        51 => 30,
-        _ => 0,
-    }
-}
-
-fn in_front(queued: usize)
-    requires { ⌜ queued ≤ 30 ⌝ }
-{
-    let mut w = work::crowd(queued, false);
-    work::in_front(&mut w, queued + 1, PAIRS);
-    show(b"in front of ", queued, PAIRS, words::running(&w));
-}
-
-fn behind_equals(queued: usize)
-    requires { ⌜ queued ≤ 30 ⌝ }
-{
-    let mut w = work::crowd(queued, true);
-    work::behind_equals(&mut w, queued + 1, PAIRS);
-    show(b"behind equals, ", queued, PAIRS, words::running(&w));
-}
-
-fn tested() {
-    let w = work::crowd(31, true);
-    let found = work::tested(&w, TESTS);
-    show(b"found sound, ", 31, found, words::running(&w));
-}
-
-struct Order {
-    whole: bool,
-    kind: u8,
-    crowd: u8,
-}
-
-fn read() -> Order {
-    let mut bytes = [0u8; 2];
-    let whole = io::read_full(STDIN_FILENO, &mut bytes) == 2;
-    Order {
-        whole,
-        kind: bytes[0],
-        crowd: bytes[1],
-    }
+    test_lines::write(b" times, check ");
+    test_lines::number(check);
+    test_lines::write(b"\n");
 }
 
 fn main() {
-    let mut left: u64 = 1000;
-    while left > 0 {
-        let order = read();
-        if !order.whole {
-            return;
-        }
-        let queued = queued_by(order.crowd);
-        let kind = order.kind;
-        match kind {
-            102 => in_front(queued),
-            98 => behind_equals(queued),
-            116 => tested(),
-            _ => {}
-        }
-        left -= 1;
+    let mut order = [0u8; 1];
+    io::read_full(STDIN_FILENO, &mut order);
+    let mut text = [0u8; 60000];
+    let n = io::read_full(STDIN_FILENO, &mut text);
+    let script = packed::pack(&text[..n]);
+    if order[0] == b'k' {
+        show(b"k: ", script, false, KNOWN);
+        return;
+    }
+    if order[0] == b't' {
+        show(b"t: ", script, true, TESTED);
+        return;
     }
 }

@@ -14,7 +14,7 @@ use Rattle.kernel.specs.declared.Status.{Status}
 use Rattle.kernel.specs.declared.Status.the-variants.{Free, Sleep, Exe, Ready, Idle, Zombie, Wait}
 use Rattle.kernel.specs.Status.{ZOMBIE, status-number}
 
-pub status-most : (a : Status) → status-number a ≤ ZOMBIE
+status-most : (a : Status) → status-number a ≤ ZOMBIE
 status-most Free = omega arith
 status-most Ready = omega arith
 status-most Exe = omega arith
@@ -22,6 +22,12 @@ status-most Sleep = omega arith
 status-most Idle = omega arith
 status-most (Wait s) = omega arith
 status-most Zombie = omega arith
+
+pub status-small : (n : ℕ) (a : Status) → n ≡ status-number a → n < 9223372036854775808
+status-small n a e = omega (arith, status-most a)
+
+pub status-fits : (n : ℕ) (a : Status) → n ≡ status-number a → SFits w64 (pos n)
+status-fits n a e = sfits-of (status-small n a e)
 
 -- A difference lies no farther from 0 than the sum.
 difference : (a b : ℕ) → mag (pos a -ℤ pos b) ≤ a + b

@@ -1,122 +1,67 @@
 -- What taking a task out means: every queue is without it, and the links hold that. Assumes nothing.
-use mathlib.Core.Path.{_≡_, refl, ap, sym, _∙_}
-use mathlib.Core.List.{List, [], _∷_, map}
-use Prim.Native.Nat.{ℕ, zero, suc, _≤_, _<_}
+use mathlib.Core.Path.{_≡_, refl, ap, _∙_}
+use mathlib.Core.List.{List, [], _∷_}
+use Prim.Native.Nat.{ℕ, _≤_, _<_}
 use native.Mathlib.Omega.{arith}
-use native.Mathlib.Decide.{decLt}
-use lib.ListN.{length, set, length-map}
-use lib.Seq.{getD-set-same, getD-set-other, set-getD}
-use borrow.Author.Tests.{lt-ltb, le-ltb}
+use lib.Dec.{ltb}
+use borrow.Author.Tests.{ltb-true, ltb-false}
 use Rattle.laws_chain.specs.Lists.{remove}
-use Rattle.laws_chain.specs.Chain.{end}
 use Rattle.laws_chain.proofs.Lists.{remove-absent}
 use Rattle.laws_chain.proofs.Filing.{absent, loosened, loose-here, loose-there, left, stored}
-use Rattle.kernel.specs.declared.Task.{Task}
-use Rattle.kernel.specs.declared.State.{State}
 use Rattle.kernel.specs.Sizes.{task-count}
 use Rattle.kernel.specs.Status.{queue-of, queue-count}
-use Rattle.kernel.specs.Kernel.{Bare, queue, blank}
-use Rattle.kernel.specs.Seen.{bare, past, record-at, next-of, previous-of, seen}
+use Rattle.kernel.specs.Kernel.{Bare, queue}
 use Rattle.kernel.specs.Good.{standing}
+use Rattle.kernel.proofs.Decided.{either}
+use Rattle.kernel.specs.Layout.{word, field, next-word, previous-word}
+use Rattle.kernel.specs.Codes.{none}
+use Rattle.kernel.specs.Seen.{status-in, seen}
 use Rattle.kernel.specs.Sound.{LinksHold}
 use Rattle.kernel.specs.Shows.{Kept}
-use Rattle.kernel.proofs.Seen.{task-seen}
-use Rattle.queues.specs.Links.{with-table, with-record, relinked, taken-out}
-use Rattle.queues.proofs.Links.{relinks, relinked-bare, relinked-head, other-heads, relinked-long, relinked-rest}
+use Rattle.words.specs.Writes.{with-links}
+use Rattle.kernel.proofs.Codes.{link-none}
+use Rattle.words.proofs.Seen.{task-seen}
+use Rattle.words.proofs.Beside.{Beside, unchanged, beside-both}
+use Rattle.words.proofs.Records.{own, own-beside}
+use Rattle.queues.specs.Links.{relinked, taken-out}
+use Rattle.queues.proofs.Relinks.{relinked-beside, written}
 
--- What a move may count on: the queues are in order, i is a task, and the tables have the sizes that their types give them.
-pub record MovableIn (s : State) (i : ℕ) : Type 0 where
-  pub kept : Kept s
-  pub is-task : i < task-count
-  pub tasks : length (s .tasks) ≡ task-count
-  pub heads : length (s .heads) ≡ queue-count
+-- In v the queues are those of w without i, and no record has changed.
+pub record Out (w : List ℕ) (i : ℕ) (v : List ℕ) : Type 0 where
+  pub filed : LinksHold v (loosened queue-count i (standing (seen w))) (λ q. remove i (queue (seen w) q))
+  pub beside : Beside next-word w v
 
--- ---- one record is written
-
-module _ (ts : List Task) (i : ℕ) (a : Task) where
-  pub next-besides : (x : ℕ) → (x ≡ i → ⊥) → next-of (set ts i a) x ≡ next-of ts x
-  next-besides x ne = ap (λ (b : Task). b .next) (getD-set-other ts i x a past ne)
-
-  pub previous-besides : (x : ℕ) → (x ≡ i → ⊥) → previous-of (set ts i a) x ≡ previous-of ts x
-  previous-besides x ne = ap (λ (b : Task). b .previous) (getD-set-other ts i x a past ne)
-
-  pub written : i < length ts → record-at (set ts i a) i ≡ a
-  written l = getD-set-same ts i a past l
-
-pub records-with : (ts : List Task) (i : ℕ) (a : Task) → map bare (set ts i a) ≡ set (map bare ts) i (bare a)
-records-with [] i a = refl
-records-with (x ∷ ts) zero a = refl
-records-with (x ∷ ts) (suc i) a = ap (λ (l : List Bare). bare x ∷ l) (records-with ts i a)
-
--- ---- task i goes out
-
--- In t the queues are those of s without i, and nothing else has changed.
-pub record Out (s : State) (i : ℕ) (t : State) : Type 0 where
-  pub filed : LinksHold t (loosened queue-count i (standing (seen s))) (λ q. remove i (queue (seen s) q))
-  pub records : map bare (t .tasks) ≡ map bare (s .tasks)
-  pub heads : length (t .heads) ≡ queue-count
-  pub rest : t ≡ with-table s (t .tasks) (t .heads)
-
--- As many records as before.
-pub as-many : (s t : State) → map bare (t .tasks) ≡ map bare (s .tasks) → length (s .tasks) ≡ task-count → length (t .tasks) ≡ task-count
-as-many s t e l = sym (length-map (t .tasks) bare) ∙ ap length e ∙ length-map (s .tasks) bare ∙ l
-
-module _ {s : State} {i : ℕ} (m : MovableIn s i) where
-  abbrev a : Task
-  a = record-at (s .tasks) i
-
+module _ {w : List ℕ} {i : ℕ} (k : Kept w) (li : i < task-count) where
   abbrev p : ℕ
-  p = queue-of (a .status)
+  p = queue-of (status-in w i)
 
-  stood : standing (seen s) i ≡ p
-  stood = ap (λ (b : Bare). queue-of (b .status)) (task-seen s i)
+  stood : standing (seen w) i ≡ p
+  stood = ap (λ (b : Bare). queue-of (b .status)) (task-seen w i li)
 
-  out-of-one : p < queue-count → Out s i (with-record (relinked s p (a .previous) (a .next) (a .next) (a .previous)) i (a .class) (a .status) (a .deadline) end end)
+  out-of-one : p < queue-count → (let before = word w (field i previous-word) in let after = word w (field i next-word) in Out w i (with-links (relinked w p before after after before) i none none))
   out-of-one l =
-      let t = relinked s p (a .previous) (a .next) (a .next) (a .previous) in
-      let b : Task = record { class = a .class; status = a .status; deadline = a .deadline; next = end; previous = end } in
-      let r = relinks s p (a .previous) (a .next) (a .next) (a .previous) i (m .tasks) in
-      let e = relinked-bare s p (a .previous) (a .next) (a .next) (a .previous) in
-      let w = written (t .tasks) i b (omega (arith, as-many s t e (m .tasks), m .is-task)) in
+      let before = word w (field i previous-word) in
+      let after = word w (field i next-word) in
+      let s = relinked-beside w p before after after before l in
+      let o = own (relinked w p before after after before) i li (s .long ∙ k .formed .long) next-word (none ∷ none ∷ []) refl (omega arith) in
       record {
         filed =
-            left (m .kept .filed) (m .kept .queues) (m .is-task) (loose-there queue-count i (standing (seen s))) (rw stood l) (loose-here queue-count i (standing (seen s)))
-            (record {
-              sides = record {
-                next-turned = λ x lx ne z. next-besides (t .tasks) i b x ne ∙ r .next-turned x lx ne z;
-                next-kept = λ x ne z. next-besides (t .tasks) i b x ne ∙ r .next-kept x ne z;
-                previous-turned = λ x lx ne z. previous-besides (t .tasks) i b x ne ∙ r .previous-turned x lx ne z;
-                previous-kept = λ x ne z. previous-besides (t .tasks) i b x ne ∙ r .previous-kept x ne z;
-              };
-              next-is = ap (λ (c : Task). c .next) w;
-              previous-is = ap (λ (c : Task). c .previous) w;
-              head-is = rw stood (relinked-head s p (a .previous) (a .next) (a .next) (a .previous) (let h = m .heads in omega arith));
-              heads-kept = λ q lq ne. other-heads s p (a .previous) (a .next) (a .next) (a .previous) q (λ z. ne (z ∙ sym stood));
-            });
-        records =
-            records-with (t .tasks) i b ∙ ap (λ (l : List Bare). set l i (bare a)) e ∙ ap (set (map bare (s .tasks)) i) (sym (task-seen s i))
-            ∙ set-getD (map bare (s .tasks)) i blank;
-        heads = relinked-long s p (a .previous) (a .next) (a .next) (a .previous) ∙ m .heads;
-        rest = ap (λ (u : State). with-table u (set (t .tasks) i b) (t .heads)) (relinked-rest s p (a .previous) (a .next) (a .next) (a .previous));
+            left (k .filed) (k .queues) li (loose-there queue-count i (standing (seen w))) (rw stood l) (loose-here queue-count i (standing (seen w)))
+            (rw stood (rw link-none at (written w p before after after before l (k .formed .long) o)));
+        beside = beside-both (omega arith) s (own-beside o li);
       }
 
-  out-of-none : queue-count ≤ p → Out s i s
+  out-of-none : queue-count ≤ p → Out w i w
   out-of-none l =
-      let free : queue-count ≤ standing (seen s) i = rw stood l in
+      let free : queue-count ≤ standing (seen w) i = rw stood l in
       record {
         filed =
-            stored (m .kept .filed) (m .kept .queues) (m .is-task) (loose-there queue-count i (standing (seen s))) free (loose-here queue-count i (standing (seen s))) (λ x ne. (refl, refl))
-            (m .kept .filed .alone-next i (m .is-task) free) (m .kept .filed .alone-previous i (m .is-task) free) (λ q lq. refl)
-            (λ q lq. remove-absent i (queue (seen s) q) (absent i (m .kept .queues q lq) (λ e. omega arith)));
-        records = refl;
-        heads = m .heads;
-        rest = refl;
+            stored (k .filed) (k .queues) li (loose-there queue-count i (standing (seen w))) free (loose-here queue-count i (standing (seen w))) (λ x ne. (refl, refl))
+            (k .filed .alone-next i li free) (k .filed .alone-previous i li free) (λ q lq. refl)
+            (λ q lq. remove-absent i (queue (seen w) q) (absent i (k .queues q lq) (λ e. omega arith)));
+        beside = unchanged;
       }
 
-  pub out : Out s i (taken-out s i)
+  pub out : Out w i (taken-out w i)
   unfolding taken-out
-  out = go (decLt p queue-count)
-    where
-      go : Dec (p < queue-count) → Out s i (taken-out s i)
-      go (yes l) = rw (lt-ltb p queue-count l) (out-of-one l)
-      go (no ne) = rw (le-ltb p queue-count (omega arith)) (out-of-none (omega arith))
+  out = either (Out w i) (ltb p queue-count) (λ e. out-of-one (ltb-true p queue-count e)) (λ e. out-of-none (ltb-false p queue-count e))

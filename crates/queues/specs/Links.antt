@@ -1,79 +1,60 @@
--- What the code finds in the links and writes there, to the letter. Assumes nothing.
+-- What the code finds in the links, and writes there. Assumes nothing.
+use mathlib.Core.Path.{_≡_}
 use mathlib.Core.Bool.{Bool, cond}
 use mathlib.Core.List.{List}
-use Prim.Native.Nat.{ℕ}
-use lib.IntN.{ℤ, pos}
-use lib.ListN.{set}
+use Prim.Native.Nat.{ℕ, _≤_, _<_}
+use lib.ListN.{length}
 use lib.Dec.{ltb, leb}
-use Rattle.laws_chain.specs.Lists.{lead, behind}
-use Rattle.laws_chain.specs.Chain.{end, start, finish, Chain, Gap, target}
-use Rattle.kernel.specs.declared.Class.{Class}
+use Rattle.laws_chain.specs.Lists.{lead}
+use Rattle.laws_chain.specs.Chain.{Chain, Gap}
 use Rattle.kernel.specs.declared.Status.{Status}
-use Rattle.kernel.specs.declared.Task.{Task}
-use Rattle.kernel.specs.declared.State.{State}
 use Rattle.kernel.specs.Sizes.{task-count}
 use Rattle.kernel.specs.Status.{queue-of, queue-count}
-use Rattle.kernel.specs.Kernel.{Bare, queue}
-use Rattle.kernel.specs.Seen.{record-at, next-of, previous-of, head-of, seen}
+use Rattle.kernel.specs.Kernel.{queue}
 use Rattle.kernel.specs.Good.{deadline-of}
+use Rattle.kernel.specs.Layout.{word, field, next-word, previous-word}
+use Rattle.kernel.specs.Codes.{none, link}
+use Rattle.kernel.specs.Seen.{status-in, next-in, previous-in, head-in, seen}
+use Rattle.words.specs.Writes.{with-links, with-filing, with-previous, with-lead}
 
 -- ---- what it finds
 
 -- Queue q is a chain.
-abbrev pub Linked : State → ℕ → Type 0
-Linked s q = Chain task-count (next-of (s .tasks)) (previous-of (s .tasks)) (head-of (s .heads) q) (queue (seen s) q)
+abbrev pub Linked : List ℕ → ℕ → Type 0
+Linked w q = Chain task-count (next-in w) (previous-in w) (head-in w q) (queue (seen w) q)
 
 -- A deadline no later than d is passed.
-abbrev pub passes : State → ℕ → ℕ → Bool
-passes s d x = leb (deadline-of (seen s) x) d
+abbrev pub passes : List ℕ → ℕ → ℕ → Bool
+passes w d x = leb (deadline-of (seen w) x) d
 
--- The links on both sides of the place that a task of deadline d takes in queue q.
-abbrev pub Sides : State → ℕ → ℕ → ℤ → ℤ → Type 0
-Sides s q d before after = Gap (passes s d) (queue (seen s) q) before after
+-- The words of the links on both sides of the place that a task of deadline d takes in queue q, and how many it passes there.
+pub record Found (w : List ℕ) (q d before after n : ℕ) : Type 0 where
+  pub sides : Gap (passes w d) (queue (seen w) q) (link before) (link after)
+  pub count : n ≡ length (lead (passes w d) (queue (seen w) q))
 
 -- ---- what it writes
 
--- Another table of tasks, and other heads.
-abbrev pub with-table : State → List Task → List ℤ → State
-with-table s ts hs =
-    record { clock = s .clock; stop = s .stop; running = s .running; total = s .total; tasks = ts; heads = hs; semaphores = s .semaphores; channels = s .channels; sessions = s .sessions }
-
--- Task i has another record, and these links.
-abbrev pub with-record : State → ℕ → Class → Status → ℕ → ℤ → ℤ → State
-with-record s i class status deadline next previous =
-    with-table s (set (s .tasks) i (record { class = class; status = status; deadline = deadline; next = next; previous = previous })) (s .heads)
-
--- Task x has another next link, or another previous one. Past the table nothing changes.
-unfoldable pub with-next : State → ℕ → ℤ → State
-with-next s x link = let a = record-at (s .tasks) x in with-record s x (a .class) (a .status) (a .deadline) link (a .previous)
-
-unfoldable pub with-previous : State → ℕ → ℤ → State
-with-previous s x link = let a = record-at (s .tasks) x in with-record s x (a .class) (a .status) (a .deadline) (a .next) link
-
--- What the link `before` leads to has the next link v, or queue q the head v where `before` leads to none; what the link `after` leads
--- to has the previous link w.
-unfoldable pub relinked : State → ℕ → ℤ → ℤ → ℤ → ℤ → State
-relinked s q before after v w =
-    let t = with-next (with-previous s (target task-count after) w) (target task-count before) v in
-    with-table t (t .tasks) (cond (ltb (target task-count before) task-count) (t .heads) (set (t .heads) q v))
+-- What stands before the place, or the head of queue q, leads to n; what stands after it leads back to m.
+abbrev pub relinked : List ℕ → ℕ → ℕ → ℕ → ℕ → ℕ → List ℕ
+relinked w q before after n m = with-lead (with-previous w after m) q before n
 
 -- Task i has gone out of whichever queue it stood in; it keeps its record, with no links.
-unfoldable pub taken-out : State → ℕ → State
-taken-out s i =
-    let a = record-at (s .tasks) i in
-    let q = queue-of (a .status) in
-    cond (ltb q queue-count) (with-record (relinked s q (a .previous) (a .next) (a .next) (a .previous)) i (a .class) (a .status) (a .deadline) end end) s
+unfoldable pub taken-out : List ℕ → ℕ → List ℕ
+taken-out w i =
+    let q = queue-of (status-in w i) in
+    let before = word w (field i previous-word) in
+    let after = word w (field i next-word) in
+    cond (ltb q queue-count) (with-links (relinked w q before after after before) i none none) w
 
--- A record without its links.
-abbrev pub bare-of : Class → Status → ℕ → Bare
-bare-of class status deadline = record { class = class; status = status; deadline = deadline }
+-- Task i has gone into queue q at its place, with this status and deadline, and has passed n tasks.
+pub record Inserted (w : List ℕ) (i q : ℕ) (st : Status) (d : ℕ) (v : List ℕ) (n : ℕ) : Type 0 where
+  pub before : ℕ
+  pub after : ℕ
+  pub found : Found w q d before after n
+  pub is : v ≡ with-filing (relinked w q before after i i) i st d after before
 
--- Task i has its new record, and has gone into the queue of its new status, if that has one, at its place.
-unfoldable pub filed-in : State → ℕ → Bare → State
-filed-in s i a =
-    let q = queue-of (a .status) in
-    let before = finish end (lead (passes s (a .deadline)) (queue (seen s) q)) in
-    let after = start end (behind (passes s (a .deadline)) (queue (seen s) q)) in
-    cond (ltb q queue-count)
-    (relinked (with-record s i (a .class) (a .status) (a .deadline) after before) q before after (pos i) (pos i))
-    (with-record s i (a .class) (a .status) (a .deadline) end end)
+-- It has gone into the queue of its status, if that has one.
+pub record FiledIn (w : List ℕ) (i : ℕ) (st : Status) (d : ℕ) (v : List ℕ) (n : ℕ) : Type 0 where
+  pub in-one : queue-of st < queue-count → Inserted w i (queue-of st) st d v n
+  pub in-none : queue-count ≤ queue-of st → v ≡ with-filing w i st d none none
+  pub none-passed : queue-count ≤ queue-of st → n ≡ 0

@@ -8,13 +8,13 @@ use native.Mathlib.Omega.{arith}
 use lib.ListN.{length}
 use lib.Seq.{take-length}
 use Rattle.kernel.specs.declared.Answer.the-variants.{Refused}
-use Rattle.kernel.specs.declared.State.{State}
 use Rattle.kernel.specs.Sizes.{memory-size}
 use Rattle.kernel.specs.Channels.{own, is-reading}
 use Rattle.kernel.specs.Calls.{Call, Shown, Effect, effect, showed}
 use Rattle.kernel.specs.Seen.{seen}
+use Rattle.kernel.specs.Sound.{Sound}
 use Rattle.kernel.specs.Slices.{Slice, part-of}
-use Rattle.kernel.specs.Promise.{handed, handed-back, Loan, Answered, unchanged, Showing}
+use Rattle.kernel.specs.Promise.{handed-back, Loan, reply, given, Known, ShowingKnown}
 use Rattle.kernel.proofs.Allowed.{Allowed, ChannelInUse}
 use Rattle.kernel.proofs.Messages.{reading-open}
 use Rattle.kernel.proofs.Shows.{kept, itself}
@@ -33,20 +33,20 @@ all-of x =
     λ i. record { place = (x .place .0, here i); bytes = same i }
 
 -- A call that shows the message on channel n, or hands back x instead.
-module _ {c : Call} {s : State} (l : Loan) (n : ℕ) (other : Shown) (x : Slice) (is : effect c (seen s) (l .memory .bytes) ≡ showed n other (seen s) (l .memory .bytes))
+module _ {c : Call} {w : List ℕ} (l : Loan) (n : ℕ) (other : Shown) (x : Slice) (is : effect c (seen w) (l .memory .bytes) ≡ showed n other (seen w) (l .memory .bytes))
     (due : handed-back other l ≡ some x) where
-  pub shows : (v : Verdict) → Judged c s (l .memory .bytes) v
-      → Showing c s (l .memory) (l .standby) (by-verdict v (message (seen s) n (l .memory)) x) (refuses v) (number-of v)
-  shows Accepts j = carried-out l j refl is (itself (kept (lets-pass j refl .sound)))
-  shows (Refuses y) j =
-      subst (λ (w : Option Slice). Answered c s l (record { reply = unchanged s (Refused y); memory = l .memory .bytes; shown = w })) due
+  pub shows : (v : Verdict) → Sound w → Judged c w (l .memory .bytes) v
+      → ShowingKnown c w (l .memory) (l .standby) (by-verdict v (message (seen w) n (l .memory)) x) (refuses v) (number-of v)
+  shows Accepts h j = carried-out l j refl is (itself (kept h))
+  shows (Refuses y) h j =
+      subst (λ (z : Option Slice). Known c w l (given (reply w (Refused y)) (l .memory .bytes) z)) due
       (turned-down l j refl (ap (λ (e : Effect). e .instead) is))
 
 -- What a showing's verdict says, so that the message can be shown.
-pub showable : {c : Call} {s : State} {m : List ℕ} {n : ℕ} {v : Verdict} → Judged c s m v
-    → (Allowed c (seen s) m → (length m ≡ memory-size) × ChannelInUse (seen s) n × (is-reading (own (seen s) n) ≡ true)) → Showable s n v m
-showable {c} {s} {m} {n} j told =
+pub showable : {c : Call} {w m : List ℕ} {n : ℕ} {v : Verdict} → Sound w → Judged c w m v
+    → (Allowed c (seen w) m → (length m ≡ memory-size) × ChannelInUse (seen w) n × (is-reading (own (seen w) n) ≡ true)) → Showable w n v m
+showable {w = w} {n = n} h j told =
     record {
-      holds = λ e. let g = lets-pass j e in let a = told (g .allowed) in holds (g .sound) (a .1) (reading-open (own (seen s) n) (a .2));
-      size = λ e. told (lets-pass j e .allowed) .0;
+      holds = λ e. let a = told (lets-pass j e) in holds h (a .1) (reading-open (own (seen w) n) (a .2));
+      size = λ e. told (lets-pass j e) .0;
     }

@@ -3,7 +3,6 @@ use mathlib.Core.Path.{_≡_}
 use mathlib.Core.List.{List}
 use Prim.Native.Nat.{ℕ}
 use lib.ListN.{length}
-use Rattle.kernel.specs.declared.State.{State}
 use Rattle.kernel.specs.Sizes.{memory-size}
 use Rattle.kernel.specs.Kernel.{Kernel, channel}
 use Rattle.kernel.specs.Channels.{own, buffer, buffer-start}
@@ -22,6 +21,6 @@ by-verdict Accepts x y = x
 by-verdict (Refuses n) x y = y
 
 -- A verdict that lets pass lets only what can be shown: a session holds a buffer, and the memory has its size.
-pub record Showable (s : State) (c : ℕ) (v : Verdict) (m : List ℕ) : Type 0 where
-  pub holds : v ≡ Accepts → Holds s c
+pub record Showable (w : List ℕ) (c : ℕ) (v : Verdict) (m : List ℕ) : Type 0 where
+  pub holds : v ≡ Accepts → Holds w c
   pub size : v ≡ Accepts → length m ≡ memory-size

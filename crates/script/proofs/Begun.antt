@@ -1,6 +1,5 @@
 -- The line that is begun, in its buffer. Assumes nothing.
 use mathlib.Core.Path.{_≡_, refl, ap, sym, subst, _∙_}
-use mathlib.Core.Option.{none}
 use mathlib.Core.List.{List, [], _∷_}
 use Prim.Native.Nat.{ℕ, _+_, _≤_, _<_}
 use native.Mathlib.Omega.{arith}
@@ -8,12 +7,11 @@ use native.Mathlib.Decide.{decLt}
 use native.Mathlib.Numerals.{add-one}
 use lib.ListN.{length, set, take, length-append}
 use lib.Seq.{take-suc-set, length-take-le}
-use Rattle.kernel.specs.declared.State.{State}
 use Rattle.language.specs.declared.Line.{Line}
 use Rattle.language.specs.Meaning.{call-of, meaning}
 use Rattle.language.proofs.Length.{long-line}
-use Rattle.script.specs.declared.Turn.{Turn}
-use Rattle.script.specs.Step.{Stepped, Shown}
+use Rattle.text.specs.Text.{bytes}
+use Rattle.script.specs.Step.{Stepped, unknown, Put, Shown}
 use Rattle.script.specs.Blocks.{longest, InBuffer, Longer, Ended}
 
 -- No line is begun.
@@ -46,14 +44,13 @@ too-long buffer n b full size begun h =
 
 -- ---- the line is ended
 
-abbrev SteppedBy : State → Turn → List ℕ → Line → Type 0
-SteppedBy s turn out l = Stepped s (turn .state) (take (turn .printed) out) (call-of l)
-
-module _ {buffer : List ℕ} {n : ℕ} {s : State} {turn : Turn} {out : List ℕ} where
+module _ {buffer : List ℕ} {n : ℕ} {w paper : List ℕ} {at : ℕ} {paper′ : List ℕ} {m : ℕ} where
   -- The whole line was read.
-  pub whole-ended : n ≤ longest → Shown s turn out (call-of (meaning (take n buffer))) → Ended buffer n s turn out
-  whole-ended l h = record { fits = h .fits; stepped = λ begun k. subst (SteppedBy s turn out) (ap meaning (sym (k .whole l))) (h .stepped) }
+  pub whole-ended : {v : List ℕ} → n ≤ longest → Shown w v paper at paper′ m (call-of (meaning (take n buffer))) → Ended buffer n w v paper at paper′ m
+  whole-ended {v} l h =
+      record { text = h .text; put = h .put; stepped = λ begun k. subst (λ (x : Line). Stepped w v (h .text) (call-of x)) (ap meaning (sym (k .whole l))) (h .stepped) }
 
   -- One that is too long is no call.
-  pub long-ended : longest < n → Shown s turn out none → Ended buffer n s turn out
-  long-ended l h = record { fits = h .fits; stepped = λ begun k. subst (SteppedBy s turn out) (sym (long-line begun (k .long l))) (h .stepped) }
+  pub long-ended : longest < n → Put paper at (bytes "?\n") paper′ m → Ended buffer n w w paper at paper′ m
+  long-ended l h =
+      record { text = _; put = h; stepped = λ begun k. subst (λ (x : Line). Stepped w w (bytes "?\n") (call-of x)) (sym (long-line begun (k .long l))) (unknown refl refl) }

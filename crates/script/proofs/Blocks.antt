@@ -5,13 +5,13 @@ use mathlib.Core.List.{List, [], _∷_, _++_, append-assoc, append-nil}
 use Prim.Native.Nat.{ℕ}
 use lib.Dec.{eqb}
 use Rattle.kernel.specs.Kernel.{Kernel}
-use Rattle.kernel.specs.declared.State.{State}
 use Rattle.kernel.specs.Seen.{seen}
 use Rattle.kernel.specs.Sound.{Sound}
-use Rattle.kernel.proofs.Fresh.{fresh-sound, fresh-seen}
+use Rattle.laws_words.proofs.Fresh.{fresh-shown, fresh-sound}
 use Rattle.script.specs.Output.{turn, prints, begin, lines, title, output}
 use Rattle.script.specs.Blocks.{Reader, Read, newline, longer, byte, read, rest, at-start, Reached, Ends, Served, start, more}
 use Rattle.script.proofs.Begun.{none-begun}
+use Rattle.script.proofs.Pieces.{next-read}
 
 -- Lines whose first goes on behind the bytes p.
 unfoldable onto : List ℕ → List (List ℕ) → List (List ℕ)
@@ -62,36 +62,17 @@ as-lines (b ∷ bs) r = go (eqb b 10) (as-lines bs)
         ∙ sym (at-newline r (lines bs))
     go false rec = rec (longer b r .reader) ∙ ap (λ (ls : List (List ℕ)). prints ls (r .kernel)) (onto-byte (r .begun) b (lines bs))
 
--- Two pieces are read as one.
-two-pieces : (bs cs : List ℕ) (r : Reader)
-    → read (bs ++ cs) r ≡ record { reader = read cs (read bs r .reader) .reader; text = read bs r .text ++ read cs (read bs r .reader) .text }
-unfolding read
-two-pieces [] cs r = refl
-two-pieces (b ∷ bs) cs r =
-    let x = byte b r in
-    let y = read bs (x .reader) in
-    let z = read cs (y .reader) in
-    ap (λ (u : Read). record { reader = u .reader; text = x .text ++ u .text }) (two-pieces bs cs (x .reader))
-    ∙ (λ i. record { reader = z .reader; text = sym (append-assoc (x .text) (y .text) (z .text)) i })
-
 -- The functions come to what the model reads.
-reached : {input : List ℕ} {s : State} {buffer : List ℕ} {n : ℕ} {text : List ℕ} → Served input s buffer n text → Reached (read input at-start) s buffer n text
+reached : {input w buffer : List ℕ} {n : ℕ} {text : List ℕ} → Served input w buffer n text → Reached (read input at-start) w buffer n text
 unfolding read
-reached (start {s} {buffer} e) =
-    record { sound = subst Sound (sym e) fresh-sound; kernel = ap seen e ∙ fresh-seen; line = none-begun buffer; prints = refl }
-reached (more {input} {s} {t} {buffer′ = buffer′} {n′ = n′} {text} block text′ so-far goes-on) =
-    let h = reached so-far in
-    let x = read input at-start in
-    let from : record { kernel = seen s; begun = x .reader .begun } ≡ x .reader = λ i. record { kernel = h .kernel i; begun = x .reader .begun } in
-    let z = subst (λ (r : Reader). Reached (read block r) t buffer′ n′ text′) from (goes-on (x .reader .begun) (h .sound) (h .line)) in
-    subst (λ (y : Read). Reached y t buffer′ n′ (text ++ text′)) (sym (two-pieces input block at-start))
-    (record { sound = z .sound; kernel = z .kernel; line = z .line; prints = λ i. h .prints i ++ z .prints i })
+reached (start {w} {buffer} e) = record { sound = subst Sound (sym e) fresh-sound; kernel = ap seen e ∙ fresh-shown .is; line = none-begun buffer; prints = refl }
+reached (more {input} bytes text′ so-far goes-on) = next-read input bytes at-start (reached so-far) goes-on
 
 -- **in-blocks**: in whatever blocks an input comes, in one piece or byte by byte, what is printed, the end of the input included, is the script's output.
-pub in-blocks : {input : List ℕ} {s : State} {buffer : List ℕ} {n : ℕ} {text last : List ℕ} → Served input s buffer n text → Ends s buffer n last
+pub in-blocks : {input w buffer : List ℕ} {n : ℕ} {text last : List ℕ} → Served input w buffer n text → Ends w buffer n last
     → title ++ (text ++ last) ≡ output input
 unfolding output onto
-in-blocks {input} {s} {text = text} {last = last} served ends =
+in-blocks {input} {text = text} {last = last} served ends =
     let h = reached served in
     let x = read input at-start in
     let e : last ≡ rest (x .reader .begun) (x .reader .kernel) = ends (x .reader .begun) (h .sound) (h .line) ∙ ap (rest (x .reader .begun)) (h .kernel) in

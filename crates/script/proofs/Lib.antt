@@ -2,6 +2,6 @@
 pub mod Begun
 pub mod Blocks
 pub mod Ending
-pub mod Printed
 pub mod Turns
+pub mod Pieces
 pub mod Underway

@@ -5,15 +5,13 @@ use mathlib.Core.List.{List, [], _∷_, _++_}
 use Prim.Native.Nat.{ℕ, _≤_, _<_}
 use lib.Dec.{eqb}
 use lib.ListN.{length, take}
-use Rattle.kernel.specs.declared.State.{State}
 use Rattle.kernel.specs.Kernel.{Kernel}
 use Rattle.kernel.specs.Seen.{seen}
 use Rattle.kernel.specs.Sound.{Sound}
-use Rattle.kernel.specs.Fresh.{fresh, fresh-state}
+use Rattle.kernel.specs.Fresh.{fresh, fresh-words}
 use Rattle.language.specs.Meaning.{call-of, meaning}
-use Rattle.script.specs.declared.Turn.{Turn}
 use Rattle.script.specs.Output.{turn}
-use Rattle.script.specs.Step.{Stepped, Fits}
+use Rattle.script.specs.Step.{Stepped, Put}
 
 -- Where the reading of a script stands: the kernel, and the bytes of the line that is begun.
 pub record Reader : Type 0 where
@@ -56,38 +54,39 @@ pub record InBuffer (buffer : List ℕ) (n : ℕ) (begun : List ℕ) : Type 0 wh
   pub whole : n ≤ longest → begun ≡ take n buffer
   pub long : longest < n → longest < length begun
 
--- The code has come to state t, to this line in its buffer and to this text: that is what is read by x.
-pub record Reached (x : Read) (t : State) (buffer : List ℕ) (n : ℕ) (text : List ℕ) : Type 0 where
-  pub sound : Sound t
-  pub kernel : seen t ≡ x .reader .kernel
+-- The code has come to the words v, to this line in its buffer and to this text: that is what is read by x.
+pub record Reached (x : Read) (v buffer : List ℕ) (n : ℕ) (text : List ℕ) : Type 0 where
+  pub sound : Sound v
+  pub kernel : seen v ≡ x .reader .kernel
   pub line : InBuffer buffer n (x .reader .begun)
   pub prints : text ≡ x .text
 
 -- ---- the promises of the functions, whatever line is begun
 
--- From a sound state on, the block is read: the state t is left, another line in the buffer, and the text is printed.
-abbrev pub Reads : (block : List ℕ) (s : State) (buffer : List ℕ) (n : ℕ) (t : State) (buffer′ : List ℕ) (n′ : ℕ) (text : List ℕ) → Type 0
-Reads block s buffer n t buffer′ n′ text =
-    (begun : List ℕ) → Sound s → InBuffer buffer n begun → Reached (read block (record { kernel = seen s; begun = begun })) t buffer′ n′ text
+-- From sound words on, the bytes are read: the words v are left, another line in the buffer, and the text is printed.
+abbrev pub Reads : (bytes w buffer : List ℕ) (n : ℕ) (v buffer′ : List ℕ) (n′ : ℕ) (text : List ℕ) → Type 0
+Reads bytes w buffer n v buffer′ n′ text =
+    (begun : List ℕ) → Sound w → InBuffer buffer n begun → Reached (read bytes (record { kernel = seen w; begun = begun })) v buffer′ n′ text
 
--- From a sound state on, the end of the input prints the text.
-abbrev pub Ends : (s : State) (buffer : List ℕ) (n : ℕ) (text : List ℕ) → Type 0
-Ends s buffer n text = (begun : List ℕ) → Sound s → InBuffer buffer n begun → text ≡ rest begun (seen s)
+-- From sound words on, the end of the input prints the text.
+abbrev pub Ends : (w buffer : List ℕ) (n : ℕ) (text : List ℕ) → Type 0
+Ends w buffer n text = (begun : List ℕ) → Sound w → InBuffer buffer n begun → text ≡ rest begun (seen w)
 
 -- The line is longer by b.
 abbrev pub Longer : (buffer : List ℕ) (n b : ℕ) (buffer′ : List ℕ) (n′ : ℕ) → Type 0
 Longer buffer n b buffer′ n′ = (begun : List ℕ) → InBuffer buffer n begun → InBuffer buffer′ n′ (begun ++ (b ∷ []))
 
--- The line is ended, in any state, and what it prints stands in out.
-pub record Ended (buffer : List ℕ) (n : ℕ) (s : State) (turn : Turn) (out : List ℕ) : Type 0 where
-  pub fits : Fits turn out
-  pub stepped : (begun : List ℕ) → InBuffer buffer n begun → Stepped s (turn .state) (take (turn .printed) out) (call-of (meaning begun))
+-- The line is ended, in any words, and what it prints was put on the paper.
+pub record Ended (buffer : List ℕ) (n : ℕ) (w v paper : List ℕ) (at : ℕ) (paper′ : List ℕ) (m : ℕ) : Type 0 where
+  pub text : List ℕ
+  pub put : Put paper at text paper′ m
+  pub stepped : (begun : List ℕ) → InBuffer buffer n begun → Stepped w v text (call-of (meaning begun))
 
 -- ---- the functions, one behind the other
 
--- From `State::fresh` on, `block` has read this input, in whatever blocks it came: each time it was handed the state and the line that it left the time before. It has come to state t and to this line, and printed the text.
-pub data Served : (input : List ℕ) → State → (buffer : List ℕ) → ℕ → (text : List ℕ) → Type 0 where
-  start : {s : State} {buffer : List ℕ} → s ≡ fresh-state → Served [] s buffer 0 []
-  more : {input : List ℕ} {s t : State} {buffer buffer′ : List ℕ} {n n′ : ℕ} {text : List ℕ} (block text′ : List ℕ) → Served input s buffer n text
-      → Reads block s buffer n t buffer′ n′ text′
-      → Served (input ++ block) t buffer′ n′ (text ++ text′)
+-- From the fresh words on, `block` has read this input, in whatever pieces it came: each time it was handed the words and the line that it left the time before. It has come to the words w and to this line, and printed the text.
+pub data Served : (input w buffer : List ℕ) → ℕ → (text : List ℕ) → Type 0 where
+  start : {w buffer : List ℕ} → w ≡ fresh-words → Served [] w buffer 0 []
+  more : {input w v buffer buffer′ : List ℕ} {n n′ : ℕ} {text : List ℕ} (bytes text′ : List ℕ) → Served input w buffer n text
+      → Reads bytes w buffer n v buffer′ n′ text′
+      → Served (input ++ bytes) v buffer′ n′ (text ++ text′)

@@ -1,3 +1,2 @@
 -- Facts behind the calls on semaphores.
-pub mod Waiters
 pub mod Cases

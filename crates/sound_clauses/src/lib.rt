@@ -1,23 +1,20 @@
-// Document 01's clauses of soundness that look at no link.
+// Document 01's clauses of soundness that look at no link, over lent words: whatever they are.
 ghost use mathlib.Core.Path.{_≡_};
 ghost use mathlib.Core.Bool.{true};
 ghost use mathlib.Core.Logic.{_↔_, _⊎_};
 ghost use Prim.Native.Nat.{ℕ, _<_, _≤_};
 ghost use Rattle.kernel.specs.declared.Class.the-variants.{Nrt, Hard};
-ghost use Rattle.kernel.specs.declared.Status.the-variants.{Wait};
 ghost use Rattle.kernel.specs.Sizes.{task-count, semaphore-count};
 ghost use Rattle.kernel.specs.Status.{READY, EXE, ready-queue};
 ghost use Rattle.kernel.specs.Kernel.{Kernel, task, queue, hard, share, share-of};
-ghost use Rattle.kernel.specs.Seen.{bare, seen};
+ghost use Rattle.kernel.specs.Seen.{seen};
 ghost use Rattle.kernel.specs.Good.{NoLater, Fits, Timely, Names, MainOrSized, Suited, IdleAhead, InTime, Runs, Shared, Counted, Clocked, GoodTask, GoodSemaphore, counted-share};
-ghost use Rattle.sound_clauses.specs.Task.{Around, HardFits};
+ghost use Rattle.sound_clauses.specs.Task.{HardFits};
 use kernel::Class;
 use kernel::Semaphore;
-use kernel::SemaphoreNo;
 use kernel::State;
 use kernel::Status;
 use kernel::Stop;
-use kernel::Task;
 
 // Whether a class is NRT of that priority.
 fn is_nrt(class: Class, priority: u32) -> bool
@@ -130,79 +127,60 @@ pub fn idle_ahead(stop: usize, n: usize, clock: u32, deadline: u32) -> bool
     clock < deadline
 }
 
-// Whether a number is that of a used semaphore.
-fn used(semaphores: [Semaphore; State::SEMAPHORES], semaphore: SemaphoreNo) -> bool
-    ensures { λ r. ⌜ ((k : Kernel) → k .semaphores ≡ semaphores → ((r ≡ true) ↔ Names k (Wait semaphore))) ⌝ }
-{
-    let n = semaphore.0;
-    if n < State::SEMAPHORES {
-        let entry = semaphores[n];
-        return entry.used;
-    }
-    false
-}
-
 // Whether a status, if it is WAIT, names a used semaphore.
-fn names(semaphores: [Semaphore; State::SEMAPHORES], status: Status) -> bool
-    ensures { λ r. ⌜ ((k : Kernel) → k .semaphores ≡ semaphores → ((r ≡ true) ↔ Names k status)) ⌝ }
+fn names(w: &[u32; State::WORDS], status: Status) -> bool
+    ensures { λ r. ⌜ ((r ≡ true) ↔ Names (seen (now (w .entry))) status) ⌝ }
 {
-    match status {
-        Status::Free => true,
-        Status::Sleep => true,
-        Status::Exe => true,
-        Status::Ready => true,
-        Status::Idle => true,
-        Status::Zombie => true,
-        Status::Wait(semaphore) => used(semaphores, semaphore),
+    if let Status::Wait(semaphore) = status {
+        let n = semaphore.0;
+        if n < State::SEMAPHORES {
+            let a = words::semaphore(w, n);
+            return a.used;
+        }
+        return false;
     }
+    true
 }
 
-// Whether task x, with the record a, is good in a kernel of that clock, stop number, running task and semaphores.
-fn task_good(
-    clock: u32,
-    stop: usize,
-    running: usize,
-    semaphores: [Semaphore; State::SEMAPHORES],
-    x: usize,
-    a: Task,
-) -> bool
-    ensures { λ r. ⌜ ((k : Kernel) → Around k clock stop running semaphores → ((r ≡ true) ↔ GoodTask k x (bare a))) ⌝ }
+// Whether task x is good.
+fn task_good(w: &[u32; State::WORDS], x: usize) -> bool
+    requires { ⌜ x < task-count ⌝ }
+    ensures { λ r. ⌜ ((r ≡ true) ↔ GoodTask (seen (now (w .entry))) x (task (seen (now (w .entry))) x)) ⌝ }
 {
-    let class = a.class;
-    let status = a.status;
+    let clock = words::clock(w);
+    let reason = words::stop(w);
+    let stop = kernel::stop_number(reason);
+    let running = words::running(w);
+    let t = words::task(w, x);
+    let class = t.class;
+    let status = t.status;
     let n = kernel::status_number(status);
+    let deadline = t.deadline;
     if !exe_stored(n, x, running) {
         return false;
     }
     if !main_or_sized(x, class, n) {
         return false;
     }
-    if !timely(clock, class, n, a.deadline) {
+    if !timely(clock, class, n, deadline) {
         return false;
     }
     if !suited(class, n) {
         return false;
     }
-    if !idle_ahead(stop, n, clock, a.deadline) {
+    if !idle_ahead(stop, n, clock, deadline) {
         return false;
     }
-    names(semaphores, status)
+    names(w, status)
 }
 
 // Whether every task is good.
-pub fn tasks_good(s: State) -> bool
-    ensures { λ r. ⌜ ((r ≡ true) ↔ ((x : ℕ) → x < task-count → GoodTask (seen s) x (task (seen s) x))) ⌝ }
+pub fn tasks_good(w: &[u32; State::WORDS]) -> bool
+    ensures { λ r. ⌜ ((r ≡ true) ↔ ((x : ℕ) → x < task-count → GoodTask (seen (now (w .entry))) x (task (seen (now (w .entry))) x))) ⌝ }
 {
-    let clock = s.clock;
-    let reason = s.stop;
-    let stop = kernel::stop_number(reason);
-    let number = s.running;
-    let running = number.0;
-    let semaphores = s.semaphores;
     let mut x: usize = 0;
     while x < State::TASKS {
-        let a = s.tasks[x];
-        if !task_good(clock, stop, running, semaphores, x, a) {
+        if !task_good(w, x) {
             return false;
         }
         x += 1;
@@ -211,13 +189,13 @@ pub fn tasks_good(s: State) -> bool
 }
 
 // Whether deadline d is no later than the first ready one's.
-fn earliest(s: State, d: u32) -> bool
-    ensures { λ r. ⌜ ((r ≡ true) ↔ NoLater (seen s) d (queue (seen s) ready-queue)) ⌝ }
+fn earliest(w: &[u32; State::WORDS], d: u32) -> bool
+    ensures { λ r. ⌜ ((r ≡ true) ↔ NoLater (seen (now (w .entry))) d (queue (seen (now (w .entry))) ready-queue)) ⌝ }
 {
-    let first = queues::first(s, State::READY_QUEUE);
+    let first = queues::first(w, State::READY_QUEUE);
     if first < State::TASKS {
-        let a = s.tasks[first];
-        return d <= a.deadline;
+        let deadline = words::deadline(w, first);
+        return d <= deadline;
     }
     true
 }
@@ -236,22 +214,22 @@ pub fn in_time(stop: usize, class: Class, clock: u32, deadline: u32) -> bool
 }
 
 // Whether the stored task is a task, no later than the first ready one, and in time.
-pub fn running_good(s: State) -> bool
-    ensures { λ r. ⌜ ((r ≡ true) ↔ Runs (seen s)) ⌝ }
+pub fn running_good(w: &[u32; State::WORDS]) -> bool
+    ensures { λ r. ⌜ ((r ≡ true) ↔ Runs (seen (now (w .entry)))) ⌝ }
 {
-    let number = s.running;
-    let running = number.0;
+    let running = words::running(w);
     if State::TASKS <= running {
         return false;
     }
-    let a = s.tasks[running];
-    if !earliest(s, a.deadline) {
+    let deadline = words::deadline(w, running);
+    if !earliest(w, deadline) {
         return false;
     }
-    let reason = s.stop;
+    let reason = words::stop(w);
     let stop = kernel::stop_number(reason);
-    let class = a.class;
-    in_time(stop, class, s.clock, a.deadline)
+    let class = words::class(w, running);
+    let clock = words::clock(w);
+    in_time(stop, class, clock, deadline)
 }
 
 // A HARD task's share, rounded up.
@@ -286,24 +264,23 @@ pub fn counted_share(class: Class, status: Status) -> u64
 }
 
 // Whether the stored share total is the sum of the shares, at most the whole.
-pub fn shares_good(s: State) -> bool
-    requires { ⌜ ((x : ℕ) → x < task-count → GoodTask (seen s) x (task (seen s) x)) ⌝ }
-    ensures { λ r. ⌜ ((r ≡ true) ↔ Shared (seen s)) ⌝ }
+pub fn shares_good(w: &[u32; State::WORDS]) -> bool
+    requires { ⌜ ((x : ℕ) → x < task-count → GoodTask (seen (now w)) x (task (seen (now w)) x)) ⌝ }
+    ensures { λ r. ⌜ ((r ≡ true) ↔ Shared (seen (now (w .entry)))) ⌝ }
 {
     let mut total: u64 = 0;
     let mut x: usize = 0;
     while x < State::TASKS {
-        let a = s.tasks[x];
-        let class = a.class;
-        let status = a.status;
+        let class = words::class(w, x);
+        let status = words::status(w, x);
         total += counted_share(class, status);
         x += 1;
     }
-    let share = s.total as u64;
-    if share != total {
+    let share = words::total(w);
+    if share as u64 != total {
         return false;
     }
-    share <= State::WHOLE as u64
+    share <= State::WHOLE
 }
 
 // Whether a semaphore is good whose first waiter is `first`, no task's number where it has none.
@@ -326,30 +303,30 @@ pub fn semaphore_good(a: Semaphore, first: usize) -> bool
 }
 
 // Whether every semaphore is good.
-pub fn semaphores_good(s: State) -> bool
-    ensures { λ r. ⌜ ((r ≡ true) ↔ ((n : ℕ) → n < semaphore-count → GoodSemaphore (seen s) n)) ⌝ }
+pub fn semaphores_good(w: &[u32; State::WORDS]) -> bool
+    ensures { λ r. ⌜ ((r ≡ true) ↔ ((s : ℕ) → s < semaphore-count → GoodSemaphore (seen (now (w .entry))) s)) ⌝ }
 {
-    let semaphores = s.semaphores;
-    let mut n: usize = 0;
-    while n < State::SEMAPHORES {
-        let a = semaphores[n];
-        let first = queues::first(s, State::WAITERS + n);
+    let mut s: usize = 0;
+    while s < State::SEMAPHORES {
+        let a = words::semaphore(w, s);
+        let first = queues::first(w, State::WAITERS + s);
         if !semaphore_good(a, first) {
             return false;
         }
-        n += 1;
+        s += 1;
     }
     true
 }
 
 // Whether the clock is in its lifetime, and at its end exactly when stopped with -2.
-pub fn clock_good(s: State) -> bool
-    ensures { λ r. ⌜ ((r ≡ true) ↔ Clocked (seen s)) ⌝ }
+pub fn clock_good(w: &[u32; State::WORDS]) -> bool
+    ensures { λ r. ⌜ ((r ≡ true) ↔ Clocked (seen (now (w .entry)))) ⌝ }
 {
-    let reason = s.stop;
+    let clock = words::clock(w);
+    let reason = words::stop(w);
     let stop = kernel::stop_number(reason);
     if stop == Stop::LIFETIME {
-        return s.clock == State::LIFETIME;
+        return clock == State::LIFETIME;
     }
-    s.clock < State::LIFETIME
+    clock < State::LIFETIME
 }

@@ -1,17 +1,25 @@
 -- The code's tests of a channel and of each session on it are the channel's clauses. Assumes nothing.
-use mathlib.Core.Path.{_≡_, refl, sym}
-use mathlib.Core.Logic.{_⊎_, inl, inr, ⊎-elim}
-use Prim.Native.Nat.{ℕ, zero-le, _<_}
+use mathlib.Core.Path.{_≡_, refl, sym, _∙_}
+use mathlib.Core.Bool.{Bool, true, false, not}
+use mathlib.Core.List.{List}
+use mathlib.Core.Logic.{_↔_, _⊎_, inl, inr, ⊎-elim}
+use Prim.Native.Nat.{ℕ, zero-le, _+_, _≤_, _<_}
 use native.Mathlib.Nat.{eq-or-lt-of-le}
 use native.Mathlib.Omega.{arith}
+use borrow.Author.Needs.{needs}
 use Rattle.kernel.specs.declared.Channel.{Channel}
 use Rattle.kernel.specs.declared.Latest.{Latest}
 use Rattle.kernel.specs.declared.Latest.the-variants.{Nothing, Buffer}
 use Rattle.kernel.specs.declared.Session.{Session}
 use Rattle.kernel.specs.declared.Session.the-variants.{Closed, Write, Reading}
-use Rattle.kernel.specs.Sizes.{task-count}
-use Rattle.kernel.specs.Kernel.{Kernel, channel, session}
+use Rattle.kernel.specs.declared.Status.{Status}
+use Rattle.kernel.specs.Sizes.{task-count, channel-count}
+use Rattle.kernel.specs.Status.{status-number}
+use Rattle.kernel.specs.Kernel.{Kernel, task, channel, session, slot-number}
 use Rattle.kernel.specs.Good.{GoodChannel}
+use Rattle.kernel.specs.Seen.{status-in, slot-in, channel-in, seen}
+use Rattle.kernel.proofs.Decided.{passed, refused, Passing, none-passed, one-passes, one-fails, all-pass}
+use Rattle.words.proofs.Seen.{task-seen, channel-seen, session-seen}
 use Rattle.sound_sessions.specs.Channel.{NamesLatest, KeepsChannel}
 use Rattle.sound_sessions.specs.Session.{KeepsSession, Alone, KeptIn}
 use Rattle.sound_sessions.proofs.Buffers.{write-reading}
@@ -91,3 +99,64 @@ module _ (k : Kernel) (c : ℕ) where
         };
         alone = λ b. each-alone task-count (session k c) (g .one-writer) (g .not-read) t b l;
       }
+
+-- ---- the loop over the sessions on channel c
+
+pub record Sessions (w : List ℕ) (c t : ℕ) (X : Type 0) : Type 0 where
+  pub passing : Passing (KeptIn (seen w) c) task-count t X
+
+pub none-kept : {w : List ℕ} {c : ℕ} → Sessions w c 0 ((t : ℕ) → t < task-count → KeptIn (seen w) c t)
+none-kept = record { passing = none-passed }
+
+module _ {w : List ℕ} {c t : ℕ} {X : Type 0} (p : Sessions w c t X) where
+  pub all-kept : task-count ≤ t → (true ≡ true) ↔ X
+  all-kept l = all-pass (p .passing) l
+
+  -- The channel h, the session z and the status s that are read, and what the test of them decides.
+  module _ {h : Channel} {z : Session} {s : Status} {b : Bool} (lc : c < channel-count) (lt : t < task-count) (is-channel : h ≡ channel-in w c) (is-session : z ≡ slot-in w (slot-number c t) .session) (is-status : s ≡ status-in w t)
+      (d : (b ≡ true) ↔ KeepsSession h (status-number s) z) where
+    read : session (seen w) c t ≡ z
+    read = session-seen w c t lc lt ∙ sym is-session
+
+    tested : (b ≡ true) ↔ KeepsSession (channel (seen w) c) (status-number (task (seen w) t .status)) (session (seen w) c t)
+    tested = rw (channel-seen w c lc, task-seen w t lt, read, ← is-channel, ← is-status) d
+
+    pub wrong : not b ≡ true → (false ≡ true) ↔ X
+    wrong e = one-fails (p .passing) lt (λ f. refused tested e (f .itself))
+
+    pub not-alone : {a : ℕ} {b′ : Bool} → z ≡ Write a → not b′ ≡ true → (b′ ≡ true) ↔ Alone task-count (session (seen w) c) t a → (false ≡ true) ↔ X
+    not-alone is e d′ = one-fails (p .passing) lt (λ f. refused d′ e (f .alone _ (read ∙ is)))
+
+    pub one-kept : not b ≡ false → ((a : ℕ) → z ≡ Write a → Alone task-count (session (seen w) c) t a) → Sessions w c (t + 1) X
+    one-kept e alone = record { passing = one-passes (p .passing) (record { itself = passed tested e; alone = λ a is. alone a (sym read ∙ is) }) }
+
+pub ruleset sessions = (needs, none-kept, all-kept, wrong, not-alone)
+
+-- ---- the loop over the channels
+
+pub record Channels (w : List ℕ) (c : ℕ) (X : Type 0) : Type 0 where
+  pub passing : Passing (GoodChannel (seen w)) channel-count c X
+
+pub none-good : {w : List ℕ} → Channels w 0 ((c : ℕ) → c < channel-count → GoodChannel (seen w) c)
+none-good = record { passing = none-passed }
+
+module _ {w : List ℕ} {c : ℕ} {X : Type 0} (p : Channels w c X) where
+  pub all-good : channel-count ≤ c → (true ≡ true) ↔ X
+  all-good l = all-pass (p .passing) l
+
+  -- The channel h that is read, and what the tests of it and of its sessions decide.
+  module _ {h : Channel} {b : Bool} (l : c < channel-count) (is : h ≡ channel-in w c) (d : (b ≡ true) ↔ KeepsChannel h) where
+    record-tested : (b ≡ true) ↔ KeepsChannel (channel (seen w) c)
+    record-tested = rw (channel-seen w c l, ← is) d
+
+    pub record-wrong : not b ≡ true → (false ≡ true) ↔ X
+    record-wrong e = one-fails (p .passing) l (λ f. refused record-tested e (channel-kept _ c f))
+
+    module _ {b′ : Bool} (d′ : (b′ ≡ true) ↔ ((t : ℕ) → t < task-count → KeptIn (seen w) c t)) where
+      pub sessions-wrong : not b′ ≡ true → (false ≡ true) ↔ X
+      sessions-wrong e = one-fails (p .passing) l (λ f. refused d′ e (sessions-kept _ c f))
+
+      pub one-good : not b ≡ false → not b′ ≡ false → Channels w (c + 1) X
+      one-good e e′ = record { passing = one-passes (p .passing) (good-channel _ c (passed record-tested e) (passed d′ e′)) }
+
+pub ruleset channels = (needs, none-good, all-good, record-wrong, sessions-wrong, one-good)

@@ -1,16 +1,13 @@
 -- What must hold of a task's session on a channel, by itself and among the sessions of the others. Assumes nothing.
 use mathlib.Core.Path.{_≡_}
-use mathlib.Core.List.{List}
 use Prim.Native.Nat.{ℕ, _<_}
-use lib.ListN.{getD}
 use Rattle.kernel.specs.declared.Channel.{Channel}
 use Rattle.kernel.specs.declared.Latest.the-variants.{Nothing, Buffer}
 use Rattle.kernel.specs.declared.Session.{Session}
-use Rattle.kernel.specs.declared.Session.the-variants.{Closed, Write, Reading}
-use Rattle.kernel.specs.declared.Slot.{Slot}
+use Rattle.kernel.specs.declared.Session.the-variants.{Write, Reading}
 use Rattle.kernel.specs.Sizes.{task-count}
 use Rattle.kernel.specs.Status.{status-number}
-use Rattle.kernel.specs.Kernel.{Kernel, task, channel, slot, slot-number, session}
+use Rattle.kernel.specs.Kernel.{Kernel, task, channel, session}
 use Rattle.kernel.specs.Good.{Opens, GoodSession}
 
 -- A session on channel h of a task whose status has the number n, by itself: it is good where it is open, a writer's buffer is not the latest, and nothing is read before the first put.
@@ -27,10 +24,6 @@ Alone n z t b = (u : ℕ) → u < n → (u ≡ t → ⊥) → Opens (z u) b → 
 pub record KeptSession (n : ℕ) (h : Channel) (m : ℕ) (z : ℕ → Session) (t : ℕ) : Type 0 where
   pub itself : KeepsSession h m (z t)
   pub alone : (b : ℕ) → z t ≡ Write b → Alone n z t b
-
--- The session of task t on channel c, in the table of a state.
-abbrev pub session-at : List Slot → ℕ → ℕ → Session
-session-at sessions c t = getD sessions (slot-number c t) (slot Closed) .session
 
 -- The session of task t on channel c of a kernel.
 abbrev pub KeptIn : Kernel → ℕ → ℕ → Type 0

@@ -1,4 +1,4 @@
-// The clauses of soundness about channels and sessions.
+// The clauses of soundness about channels and sessions, over lent words: whatever they are.
 ghost use mathlib.Core.Path.{_≡_};
 ghost use mathlib.Core.Bool.{true};
 ghost use mathlib.Core.Logic.{_↔_};
@@ -6,14 +6,14 @@ ghost use Prim.Native.Nat.{ℕ, _<_};
 ghost use Rattle.kernel.specs.declared.Latest.the-variants.{Nothing, Buffer};
 ghost use Rattle.kernel.specs.Sizes.{task-count, channel-count};
 ghost use Rattle.kernel.specs.Status.{status-number};
+ghost use Rattle.kernel.specs.Kernel.{session};
 ghost use Rattle.kernel.specs.Good.{Opens, GoodSession, GoodChannel};
 ghost use Rattle.kernel.specs.Seen.{seen};
 ghost use Rattle.sound_sessions.specs.Channel.{KeepsSizes, NamesLatest, KeepsChannel};
-ghost use Rattle.sound_sessions.specs.Session.{KeepsSession, Alone, KeptIn, session-at};
+ghost use Rattle.sound_sessions.specs.Session.{KeepsSession, Alone, KeptIn};
 use kernel::Channel;
 use kernel::Latest;
 use kernel::Session;
-use kernel::Slot;
 use kernel::State;
 use kernel::Status;
 
@@ -122,14 +122,13 @@ pub fn keeps_session(session: Session, status: Status, channel: Channel) -> bool
 }
 
 // Whether no other task's session on channel c names buffer b, for a write or a reading.
-fn alone(sessions: [Slot; State::SESSIONS], c: usize, t: usize, b: u32) -> bool
+fn alone(w: &[u32; State::WORDS], c: usize, t: usize, b: u32) -> bool
     requires { ⌜ c < channel-count ⌝ }
-    ensures { λ r. ⌜ ((r ≡ true) ↔ Alone task-count (session-at sessions c) t b) ⌝ }
+    ensures { λ r. ⌜ ((r ≡ true) ↔ Alone task-count (session (seen (now (w .entry))) c) t b) ⌝ }
 {
     let mut u: usize = 0;
     while u < State::TASKS {
-        let slot = sessions[State::TASKS * c + u];
-        let session = slot.session;
+        let session = words::session(w, State::TASKS * c + u);
         if u != t {
             if names(session, b) {
                 return false;
@@ -141,23 +140,20 @@ fn alone(sessions: [Slot; State::SESSIONS], c: usize, t: usize, b: u32) -> bool
 }
 
 // Whether the session of every task on channel c keeps the rules. Readers may share a buffer, so only a writer must be alone.
-fn keeps_sessions(s: State, c: usize) -> bool
+fn keeps_sessions(w: &[u32; State::WORDS], c: usize) -> bool
     requires { ⌜ c < channel-count ⌝ }
-    ensures { λ r. ⌜ ((r ≡ true) ↔ ((t : ℕ) → t < task-count → KeptIn (seen s) c t)) ⌝ }
+    ensures { λ r. ⌜ ((r ≡ true) ↔ ((t : ℕ) → t < task-count → KeptIn (seen (now (w .entry))) c t)) ⌝ }
 {
-    let channel = s.channels[c];
+    let channel = words::channel(w, c);
     let mut t: usize = 0;
     while t < State::TASKS {
-        let slot = s.sessions[State::TASKS * c + t];
-        let session = slot.session;
-        let task = s.tasks[t];
-        let status = task.status;
+        let session = words::session(w, State::TASKS * c + t);
+        let status = words::status(w, t);
         if !keeps_session(session, status, channel) {
             return false;
         }
         if let Session::Write(b) = session {
-            let sessions = s.sessions;
-            if !alone(sessions, c, t, b) {
+            if !alone(w, c, t, b) {
                 return false;
             }
         }
@@ -167,16 +163,16 @@ fn keeps_sessions(s: State, c: usize) -> bool
 }
 
 // Whether every channel and every session on it keeps the rules.
-pub fn channels_good(s: State) -> bool
-    ensures { λ r. ⌜ ((r ≡ true) ↔ ((c : ℕ) → c < channel-count → GoodChannel (seen s) c)) ⌝ }
+pub fn channels_good(w: &[u32; State::WORDS]) -> bool
+    ensures { λ r. ⌜ ((r ≡ true) ↔ ((c : ℕ) → c < channel-count → GoodChannel (seen (now (w .entry))) c)) ⌝ }
 {
     let mut c: usize = 0;
     while c < State::CHANNELS {
-        let channel = s.channels[c];
+        let channel = words::channel(w, c);
         if !keeps_channel(channel) {
             return false;
         }
-        if !keeps_sessions(s, c) {
+        if !keeps_sessions(w, c) {
             return false;
         }
         c += 1;

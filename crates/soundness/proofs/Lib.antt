@@ -1,3 +1,3 @@
--- What the tests of the links mean, and that all tests together are soundness.
+-- The walks of the test, and what the tests decide together.
 pub mod Walks
 pub mod Parts

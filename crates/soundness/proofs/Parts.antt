@@ -1,107 +1,67 @@
 -- What the tests decide one by one is, together, soundness. Assumes nothing.
-use mathlib.Core.Path.{_≡_, refl, _∙_}
+use mathlib.Core.Path.{refl}
 use mathlib.Core.Logic.{_↔_}
-use Prim.Native.Nat.{ℕ, _*_, _≤_, _<_}
-use native.Mathlib.Omega.{arith}
-use lib.ListN.{length, length-map}
-use Rattle.laws_chain.specs.Lists.{Among}
+use mathlib.Core.List.{List}
+use Prim.Native.Nat.{ℕ, _*_, _<_}
 use Rattle.laws_chain.specs.Chain.{end}
-use Rattle.laws_chain.specs.Filing.{Queue}
 use Rattle.laws_chain.proofs.Lists.{all-map, all-zip}
 use Rattle.laws_chain.proofs.Stretch.{below, once}
-use Rattle.kernel.specs.declared.State.{State}
 use Rattle.kernel.specs.Sizes.{task-count, semaphore-count, channel-count}
 use Rattle.kernel.specs.Status.{queue-count}
 use Rattle.kernel.specs.Kernel.{task, queue}
-use Rattle.kernel.specs.Seen.{next-of, previous-of, head-of, seen}
-use Rattle.kernel.specs.Good.{GoodTask, GoodSemaphore, GoodChannel, Runs, Shared, Clocked, standing, deadline-of}
+use Rattle.kernel.specs.Good.{Sized, GoodTask, GoodSemaphore, GoodChannel, Runs, Shared, Clocked, Queued, standing}
+use Rattle.kernel.specs.Seen.{next-in, previous-in, head-in, seen}
+use Rattle.kernel.specs.Form.{Formed}
 use Rattle.kernel.specs.Sound.{Filed, Sound}
-use Rattle.kernel.proofs.Decided.{means}
-use Rattle.soundness.specs.Tests.{GoodQueue, Loose, FiledTask}
-
--- The tables have the sizes that their types give them.
-pub record Long (s : State) : Type 0 where
-  pub tasks : length (s .tasks) ≡ task-count
-  pub heads : length (s .heads) ≡ queue-count
-  pub semaphores : length (s .semaphores) ≡ semaphore-count
-  pub channels : length (s .channels) ≡ channel-count
-  pub sessions : length (s .sessions) ≡ task-count * channel-count
+use Rattle.words.proofs.Tables.{tabulate-length}
+use Rattle.soundness.specs.Tests.{GoodQueue, FiledTask}
 
 -- What each test decides.
-pub record Parts (s : State) : Type 0 where
-  pub queues : (q : ℕ) → q < queue-count → GoodQueue s q
-  pub filed : (x : ℕ) → x < task-count → FiledTask s x
-  pub tasks : (x : ℕ) → x < task-count → GoodTask (seen s) x (task (seen s) x)
-  pub runs : Runs (seen s)
-  pub shared : Shared (seen s)
-  pub semaphores : (n : ℕ) → n < semaphore-count → GoodSemaphore (seen s) n
-  pub clocked : Clocked (seen s)
-  pub channels : (c : ℕ) → c < channel-count → GoodChannel (seen s) c
+pub record Parts (w : List ℕ) : Type 0 where
+  pub formed : Formed w
+  pub queues : (q : ℕ) → q < queue-count → GoodQueue w q
+  pub filed : (x : ℕ) → x < task-count → FiledTask w x
+  pub tasks : (x : ℕ) → x < task-count → GoodTask (seen w) x (task (seen w) x)
+  pub runs : Runs (seen w)
+  pub shared : Shared (seen w)
+  pub semaphores : (s : ℕ) → s < semaphore-count → GoodSemaphore (seen w) s
+  pub clocked : Clocked (seen w)
+  pub channels : (c : ℕ) → c < channel-count → GoodChannel (seen w) c
 
-module _ (s : State) where
+module _ (w : List ℕ) where
   -- A chain holds tasks alone, and none twice: that needs no test of its own.
-  listed : ((q : ℕ) → q < queue-count → GoodQueue s q) → ((x : ℕ) → x < task-count → FiledTask s x) → (q : ℕ) → q < queue-count
-      → Queue task-count (standing (seen s)) (deadline-of (seen s)) q (queue (seen s) q)
-  listed g f q l =
-      let xs = queue (seen s) q in
-      let head = head-of (s .heads) q in
-      let chain = g q l .linked .whole in
+  listed : Parts w → Queued (seen w)
+  listed p q l =
+      let xs = queue (seen w) q in
+      let chain = p .queues q l .linked .whole in
       record {
-        only = all-zip (λ x b e. (b, e)) xs (below task-count (next-of (s .tasks)) (previous-of (s .tasks)) end end head xs chain) (g q l .sorted .only);
-        all = λ x lx e. rw e at (f x lx .stands (rw e l));
-        once = once task-count (next-of (s .tasks)) (previous-of (s .tasks)) end head xs chain;
-        rising = g q l .sorted .rising;
+        only = all-zip (λ x b e. (b, e)) xs (below task-count (next-in w) (previous-in w) end end (head-in w q) xs chain) (p .queues q l .sorted .only);
+        all = λ x lx e. rw e at (p .filed x lx .stands (rw e l));
+        once = once task-count (next-in w) (previous-in w) end (head-in w q) xs chain;
+        rising = p .queues q l .sorted .rising;
       }
 
-  filed : ((q : ℕ) → q < queue-count → GoodQueue s q) → ((x : ℕ) → x < task-count → FiledTask s x) → Filed s
-  filed g f = record { linked = λ q l. g q l .linked; alone-next = λ x l h. f x l .loose h .next; alone-previous = λ x l h. f x l .loose h .previous }
-
-  -- **sound-decided**: the tests together say just that the state is sound. No clause is dropped on either side.
-  pub sound-decided : Long s → Parts s ↔ Sound s
-  sound-decided long = (
+  -- **sound-decided**: the tests together say just that the words are sound. No clause is dropped on either side.
+  pub sound-decided : Parts w ↔ Sound w
+  sound-decided = (
     λ p.
-        record {
-          filed = filed (p .queues) (p .filed);
-          good = record {
-            sized = record {
-              tasks = length-map (s .tasks) _ ∙ long .tasks;
-              queues = length-map (s .heads) _ ∙ long .heads;
-              semaphores = long .semaphores;
-              channels = long .channels;
-              sessions = long .sessions;
-            };
-            tasks = p .tasks;
-            runs = p .runs;
-            queues = listed (p .queues) (p .filed);
-            shared = p .shared;
-            semaphores = p .semaphores;
-            channels = p .channels;
-            clocked = p .clocked;
-          };
-        },
+        let sized : Sized (seen w) = record {
+          tasks = tabulate-length task-count _;
+          queues = tabulate-length queue-count _;
+          semaphores = tabulate-length semaphore-count _;
+          channels = tabulate-length channel-count _;
+          sessions = tabulate-length (task-count * channel-count) _;
+        } in
+        let filed : Filed w = record { linked = λ q l. p .queues q l .linked; alone-next = λ x l h. p .filed x l .loose h .next; alone-previous = λ x l h. p .filed x l .loose h .previous } in
+        let queues = listed p in
+        search,
     λ g.
-        let k = g .good in
+        let queues : (q : ℕ) → q < queue-count → GoodQueue w q = λ q l.
+        record { linked = g .filed .linked q l; sorted = record { only = all-map (λ x o. o .1) (queue (seen w) q) (g .good .queues q l .only); rising = g .good .queues q l .rising } } in
+        let filed : (x : ℕ) → x < task-count → FiledTask w x = λ x l.
         record {
-          queues = λ q l. record { linked = g .filed .linked q l; sorted = record { only = all-map (λ x o. o .1) (queue (seen s) q) (k .queues q l .only); rising = k .queues q l .rising } };
-          filed = λ x l.
-              record {
-                stands = λ h. k .queues (standing (seen s) x) h .all x l refl;
-                loose = λ h. record { next = g .filed .alone-next x l h; previous = g .filed .alone-previous x l h };
-              };
-          tasks = k .tasks;
-          runs = k .runs;
-          shared = k .shared;
-          semaphores = k .semaphores;
-          clocked = k .clocked;
-          channels = k .channels;
-        },
+          stands = λ h. g .good .queues (standing (seen w) x) h .all x l refl;
+          loose = λ h. record { next = g .filed .alone-next x l h; previous = g .filed .alone-previous x l h };
+        } in
+        search,
   )
-
--- ---- one task
-
-module _ {s : State} {x q : ℕ} {A : Type 0} (e : standing (seen s) x ≡ q) where
-  pub in-queue : q < queue-count → A ↔ Among x (queue (seen s) q) → A ↔ FiledTask s x
-  in-queue l d = means d (λ m. record { stands = λ h. rw e m; loose = λ h. absurd (omega arith) }) (λ f. rw e at (f .stands (rw e l)))
-
-  pub in-none : queue-count ≤ q → A ↔ Loose s x → A ↔ FiledTask s x
-  in-none l d = means d (λ m. record { stands = λ h. absurd (omega arith); loose = λ h. m }) (λ f. f .loose (rw e l))

@@ -1,123 +1,187 @@
--- The walks of the test through a queue, in the code's terms. Assumes nothing.
+-- The walks of the test through a queue, in the words' terms. Assumes nothing.
 use mathlib.Core.Path.{_≡_, ap, sym, _∙_}
+use mathlib.Core.Bool.{true, false}
 use mathlib.Core.Logic.{_↔_, inl, inr, ⊎-elim}
-use mathlib.Core.List.{List, []}
+use mathlib.Core.List.{List, [], _∷_}
 use Prim.Native.Nat.{ℕ, _-_, _≤_, _<_}
 use native.Mathlib.Omega.{arith}
-use lib.IntN.{ℤ}
 use lib.ListN.{length}
+use lib.Dec.{eqb}
+use borrow.Author.Needs.{needs}
 use Rattle.laws_chain.specs.Lists.{Among}
-use Rattle.laws_chain.specs.Chain.{end, target, walk}
+use Rattle.laws_chain.specs.Chain.{target}
 use Rattle.laws_chain.proofs.Tests.{Untested, test-end, test-out, test-step, test-not, Walking, onward, walking, at-task, goes-on, at-end, Ordered, ordered}
-use Rattle.kernel.specs.declared.State.{State}
 use Rattle.kernel.specs.Sizes.{task-count}
 use Rattle.kernel.specs.Status.{queue-of, queue-count}
 use Rattle.kernel.specs.Kernel.{Bare, queue}
-use Rattle.kernel.specs.Seen.{next-of, previous-of, head-of, record-at, seen}
 use Rattle.kernel.specs.Good.{standing, deadline-of}
-use Rattle.kernel.proofs.Seen.{task-seen, queue-seen}
+use Rattle.kernel.proofs.Decided.{yes, no, means, equal}
+use Rattle.kernel.specs.Layout.{word, field, head-at, next-word, previous-word}
+use Rattle.kernel.specs.Codes.{none, link}
+use Rattle.kernel.specs.Seen.{next-in, previous-in, status-in, deadline-in, seen}
+use Rattle.kernel.proofs.Codes.{link-none, link-once, leads-some, leads-none}
+use Rattle.words.proofs.Seen.{task-seen, queue-seen}
 use Rattle.queues.specs.Links.{Linked}
 use Rattle.soundness.specs.Tests.{Sorted}
 
--- What the test of the links from `now` on says is whether X.
-pub record Testing (s : State) (most : ℕ) (back now : ℤ) (X : Type 0) : Type 0 where
-  pub iff : Untested task-count (next-of (s .tasks)) (previous-of (s .tasks)) most back now ↔ X
+-- ---- is it a chain?
 
--- What T of the tasks from x on says is whether X.
-pub record At (s : State) (x : ℕ) (T : List ℕ → Type 0) (X : Type 0) : Type 0 where
-  pub walk : Walking task-count (next-of (s .tasks)) (previous-of (s .tasks)) x T X
+-- What the test of the links from the word `now` on says is whether X.
+pub record Testing (w : List ℕ) (most back now : ℕ) (X : Type 0) : Type 0 where
+  pub iff : Untested task-count (next-in w) (previous-in w) most (link back) (link now) ↔ X
 
--- How many tasks are left from x on.
-abbrev pub left : State → ℕ → ℕ
-left s x = length (onward task-count (next-of (s .tasks)) (previous-of (s .tasks)) x)
+-- From the head that is read.
+pub test-begins : {w : List ℕ} {q h : ℕ} → q < queue-count → h ≡ word w (head-at q) → Testing w task-count none h (Linked w q)
+test-begins {w} {q} lq is = let e = queue-seen w q lq in rw is (record { iff = rw link-none ((λ u. record { whole = rw e u }), λ c. rw e at (c .whole)) })
+
+-- A word is that of -1 where its link is -1.
+ends : {X : Type 0} (now : ℕ) → (link now ≡ link none) ↔ X → (eqb now none ≡ true) ↔ X
+ends now i = means (equal now none) (λ e. i .0 (ap link e)) (λ x. link-once now none (i .1 x))
+
+module _ {w : List ℕ} {most back now : ℕ} {X : Type 0} (t : Testing w most back now X) where
+  pub links-out : most ≤ 0 → (eqb now none ≡ true) ↔ X
+  links-out l = ends now (rw link-none (test-out task-count _ _ most (link back) (link now) l (t .iff)))
+
+  -- The number x of the word, and the word p of the previous link there.
+  module _ {x : ℕ} (wide : x ≡ now) where
+    pub links-end : task-count ≤ x → (eqb now none ≡ true) ↔ X
+    links-end l = ends now (rw link-none (test-end task-count _ _ most (link back) (link now) (leads-none now (rw wide at l)) (t .iff)))
+
+    module _ {p : ℕ} (z : 0 < most) (l : x < task-count) (read : p ≡ word w (field x previous-word)) where
+      is-task : now < task-count
+      is-task = rw wide at l
+
+      previous : p ≡ word w (field now previous-word)
+      previous = rw wide at read
+
+      pub links-step : {n : ℕ} → p ≡ back → n ≡ word w (field x next-word) → Testing w (most - 1) now n X
+      links-step e next =
+          let r = leads-some now is-task in
+          rw (next, wide) (record { iff = rw r at (test-step task-count _ _ most (link back) (link now) z (rw r is-task) (rw r (ap link (sym previous ∙ e))) (t .iff)) })
+
+      pub links-wrong : (p ≡ back → ⊥) → (false ≡ true) ↔ X
+      links-wrong ne =
+          let r = leads-some now is-task in
+          no (test-not task-count _ _ most (link back) (link now) z (rw r is-task) (rw r (λ e. ne (previous ∙ link-once _ _ e))) (t .iff))
+
+-- The needs of that loop.
+pub ruleset testing = (needs, test-begins, links-out, links-end, links-step, links-wrong)
+
+-- ---- what does it hold?
+
+-- What T of the tasks from the word n on says is whether X.
+record At (w : List ℕ) (n : ℕ) (T : List ℕ → Type 0) (X : Type 0) : Type 0 where
+  walk : Walking task-count (next-in w) (previous-in w) (target task-count (link n)) T X
+
+-- How many tasks are left from a word on.
+unfoldable pub left : List ℕ → ℕ → ℕ
+left w n = length (onward task-count (next-in w) (previous-in w) (target task-count (link n)))
+
+begins : (w : List ℕ) (q : ℕ) (T : List ℕ → Type 0) → q < queue-count → Linked w q → At w (word w (head-at q)) T (T (queue (seen w) q))
+begins w q T lq c = let e = queue-seen w q lq in record { walk = rw e (walking task-count (next-in w) (previous-in w) T _ (rw e at (c .whole))) }
+
+-- At the end nothing is left.
+ended : {w : List ℕ} {n : ℕ} {T : List ℕ → Type 0} {X : Type 0} → At w n T X → task-count ≤ n → T [] ↔ X
+ended {n = n} a l = at-end task-count _ _ (a .walk) (leads-none n l)
+
+-- The walk stands at task x.
+module _ {w : List ℕ} {x : ℕ} {T : List ℕ → Type 0} {X : Type 0} (a : At w x T X) (l : x < task-count) where
+  here : Walking task-count (next-in w) (previous-in w) x T X
+  here = rw (leads-some x l) at (a .walk)
+
+  -- It goes on to the next, n and its number z, where what is asked of the rest says the same.
+  onward-goes : {n z : ℕ} {T′ : List ℕ → Type 0} → n ≡ word w (field x next-word) → z ≡ n → ((ys : List ℕ) → T (x ∷ ys) ↔ X → T′ ys ↔ X) → At w z T′ X × (left w z < left w x)
+  unfolding left
+  onward-goes {T′ = T′} next wide f =
+      let g = goes-on task-count _ _ T′ here l (f _ (at-task task-count _ _ here l)) in
+      rw (wide, next) (record { walk = g .0 }, rw (leads-some x l) (g .1))
+
+-- ---- is it in order?
 
 -- Each has the status of queue q, and a deadline no earlier than the one before it.
-abbrev pub Rises : State → ℕ → ℕ → List ℕ → Type 0
-Rises s q low xs = Ordered (λ x. standing (seen s) x ≡ q) (deadline-of (seen s)) low xs
+abbrev Rises : List ℕ → ℕ → ℕ → List ℕ → Type 0
+Rises w q low xs = Ordered (λ x. standing (seen w) x ≡ q) (deadline-of (seen w)) low xs
 
-module _ (s : State) (q : ℕ) (long : length (s .heads) ≡ queue-count) (lq : q < queue-count) where
-  abbrev next : ℕ → ℤ
-  next = next-of (s .tasks)
+pub record Sorting (w : List ℕ) (q low x : ℕ) (X : Type 0) : Type 0 where
+  at : At w x (Rises w q low) X
 
-  abbrev previous : ℕ → ℤ
-  previous = previous-of (s .tasks)
-
-  abbrev head : ℤ
-  head = head-of (s .heads) q
-
-  pub test-begins : Testing s task-count end head (Linked s q)
-  test-begins = let w = queue-seen s q long lq in record { iff = ((λ u. record { whole = rw w u }), λ c. rw w at (c .whole)) }
-
-  pub begins : (T : List ℕ → Type 0) → Linked s q → At s (target task-count head) T (T (queue (seen s) q))
-  begins T c =
-      let w = queue-seen s q long lq in
-      record { walk = rw w (walking task-count next previous T head (rw w at (c .whole))) }
-
-  pub order-begins : Linked s q → At s (target task-count head) (Rises s q 0) (Sorted (seen s) q)
-  order-begins c =
-      let b = begins (Rises s q 0) c .walk in
-      let o = ordered (λ x. standing (seen s) x ≡ q) (deadline-of (seen s)) (queue (seen s) q) in
-      record {
+-- From the head h that is read, and its number x.
+pub sort-begins : {w : List ℕ} {q h x : ℕ} → q < queue-count → Linked w q → h ≡ word w (head-at q) → x ≡ h → Sorting w q 0 x (Sorted (seen w) q)
+sort-begins {w} {q} lq c is wide =
+    let b = begins w q (Rises w q 0) lq c .walk in
+    let o = ordered (λ x. standing (seen w) x ≡ q) (deadline-of (seen w)) (queue (seen w) q) in
+    rw (wide, is)
+    (record {
+      at = record {
         walk = record {
           now = b .now;
           back = b .back;
           stretch = b .stretch;
           task = b .task;
-          iff = ((λ t. let r = o .0 (b .iff .0 t) in record { only = r .0; rising = r .1 }), λ g. b .iff .1 (o .1 (g .only, g .rising)));
+          iff = means (b .iff) (λ t. let r = o .0 t in record { only = r .0; rising = r .1 }) (λ g. o .1 (g .only, g .rising));
         };
-      }
+      };
+    })
 
--- ---- the test of the links
+module _ {w : List ℕ} {q low x : ℕ} {X : Type 0} (a : Sorting w q low x X) where
+  pub in-order : task-count ≤ x → (true ≡ true) ↔ X
+  in-order l = yes (ended (a .at) l .0 tt)
 
-module _ {s : State} {most : ℕ} {back now : ℤ} {X : Type 0} (t : Testing s most back now X) where
-  pub links-out : most ≤ 0 → (now ≡ end) ↔ X
-  links-out l = test-out task-count _ _ most back now l (t .iff)
+  -- The queue p of its status, and its deadline d.
+  module _ {p : ℕ} (l : x < task-count) (place : p ≡ queue-of (status-in w x)) where
+    place-read : standing (seen w) x ≡ p
+    place-read = ap (λ (b : Bare). queue-of (b .status)) (task-seen w x l) ∙ sym place
 
-  -- The link leads to x.
-  module _ {x : ℕ} (e : x ≡ target task-count now) where
-    pub links-end : task-count ≤ x → (now ≡ end) ↔ X
-    links-end l = test-end task-count _ _ most back now (rw e at l) (t .iff)
+    pub misplaced : (p ≡ q → ⊥) → (false ≡ true) ↔ X
+    misplaced ne = no (λ g. ne (sym place-read ∙ at-task task-count _ _ (here (a .at) l) l .1 g .0))
 
-    pub links-step : 0 < most → x < task-count → previous-of (s .tasks) x ≡ back → Testing s (most - 1) now (next-of (s .tasks) x) X
-    links-step z l p = rw e (record { iff = test-step task-count _ _ most back now z (rw e at l) (rw e at p) (t .iff) })
+    module _ {d : ℕ} (deadline : d ≡ deadline-in w x) where
+      deadline-read : deadline-of (seen w) x ≡ d
+      deadline-read = ap (λ (b : Bare). b .deadline) (task-seen w x l) ∙ sym deadline
 
-    pub links-wrong : 0 < most → x < task-count → (previous-of (s .tasks) x ≡ back → ⊥) → X → ⊥
-    links-wrong z l ne = test-not task-count _ _ most back now z (rw e at l) (rw e at ne) (t .iff)
+      pub too-early : d < low → (false ≡ true) ↔ X
+      too-early h = no (λ g. let r : low ≤ deadline-of (seen w) x = at-task task-count _ _ (here (a .at) l) l .1 g .1 in let e = deadline-read in omega arith)
 
--- ---- the order
+      module _ {n z : ℕ} (e : p ≡ q) (h : low ≤ d) (next : n ≡ word w (field x next-word)) (wide : z ≡ n) where
+        sort-goes : At w z (Rises w q d) X × (left w z < left w x)
+        sort-goes =
+            rw (← deadline-read)
+            (onward-goes (a .at) l {T′ = Rises w q (deadline-of (seen w) x)} next wide (λ ys i. ((λ r. i .0 (place-read ∙ e, rw deadline-read h, r)), λ t. i .1 t .2)))
 
-module _ {s : State} {q low x : ℕ} {X : Type 0} (a : At s x (Rises s q low) X) (l : x < task-count) where
-  place-read : standing (seen s) x ≡ queue-of (record-at (s .tasks) x .status)
-  place-read = ap (λ (b : Bare). queue-of (b .status)) (task-seen s x)
+        pub sort-again : Sorting w q d z X
+        sort-again = record { at = sort-goes .0 }
 
-  deadline-read : deadline-of (seen s) x ≡ record-at (s .tasks) x .deadline
-  deadline-read = ap (λ (b : Bare). b .deadline) (task-seen s x)
+        pub sort-less : left w z < left w x
+        sort-less = sort-goes .1
 
-  pub misplaced : (queue-of (record-at (s .tasks) x .status) ≡ q → ⊥) → X → ⊥
-  misplaced ne g = ne (sym place-read ∙ at-task task-count _ _ (a .walk) l .1 g .0)
+-- The needs of that loop.
+pub ruleset sorting = (needs, sort-begins, in-order, misplaced, too-early, sort-again, sort-less)
 
-  pub too-early : record-at (s .tasks) x .deadline < low → X → ⊥
-  too-early h g = let r : low ≤ deadline-of (seen s) x = at-task task-count _ _ (a .walk) l .1 g .1 in let e = deadline-read in omega arith
+-- ---- who stands there?
 
-  pub order-goes : queue-of (record-at (s .tasks) x .status) ≡ q → low ≤ record-at (s .tasks) x .deadline
-      → At s (target task-count (next-of (s .tasks) x)) (Rises s q (record-at (s .tasks) x .deadline)) X × (left s (target task-count (next-of (s .tasks) x)) < left s x)
-  order-goes e h =
-      let i = at-task task-count _ _ (a .walk) l in
-      let g = goes-on task-count _ _ (Rises s q (deadline-of (seen s) x)) (a .walk) l ((λ r. i .0 (place-read ∙ e, rw deadline-read h, r)), λ t. i .1 t .2) in
-      rw (← deadline-read) (record { walk = g .0 }, g .1)
+pub record Looking (w : List ℕ) (x y : ℕ) (X : Type 0) : Type 0 where
+  at : At w y (Among x) X
 
--- ---- who stands there
+pub look-begins : {w : List ℕ} {q x h y : ℕ} → q < queue-count → Linked w q → h ≡ word w (head-at q) → y ≡ h → Looking w x y (Among x (queue (seen w) q))
+look-begins {w} {q} {x} lq c is wide = rw (wide, is) (record { at = begins w q (Among x) lq c })
 
-module _ {s : State} {x y : ℕ} {X : Type 0} (a : At s y (Among x) X) (l : y < task-count) where
-  pub found : y ≡ x → X
-  found e = at-task task-count _ _ (a .walk) l .0 (inl e)
+module _ {w : List ℕ} {x y : ℕ} {X : Type 0} (a : Looking w x y X) where
+  pub not-met : task-count ≤ y → (false ≡ true) ↔ X
+  not-met l = no (ended (a .at) l .1)
 
-  pub search-goes : (y ≡ x → ⊥) → At s (target task-count (next-of (s .tasks) y)) (Among x) X × (left s (target task-count (next-of (s .tasks) y)) < left s y)
-  search-goes ne =
-      let i = at-task task-count _ _ (a .walk) l in
-      let g = goes-on task-count _ _ (Among x) (a .walk) l ((λ m. i .0 (inr m)), λ t. ⊎-elim (λ e. absurd (ne e)) (λ m. m) (i .1 t)) in
-      (record { walk = g .0 }, g .1)
+  module _ (l : y < task-count) where
+    pub met : y ≡ x → (true ≡ true) ↔ X
+    met e = yes (at-task task-count _ _ (here (a .at) l) l .0 (inl e))
 
--- At the end nothing is left.
-pub ended : {s : State} {x : ℕ} {T : List ℕ → Type 0} {X : Type 0} → At s x T X → task-count ≤ x → T [] ↔ X
-ended a l = at-end task-count _ _ (a .walk) l
+    module _ {n z : ℕ} (ne : y ≡ x → ⊥) (next : n ≡ word w (field y next-word)) (wide : z ≡ n) where
+      look-goes : At w z (Among x) X × (left w z < left w y)
+      look-goes = onward-goes (a .at) l {T′ = Among x} next wide (λ ys i. ((λ m. i .0 (inr m)), λ t. ⊎-elim (λ e. absurd (ne e)) (λ m. m) (i .1 t)))
+
+      pub look-again : Looking w x z X
+      look-again = record { at = look-goes .0 }
+
+      pub look-less : left w z < left w y
+      look-less = look-goes .1
+
+-- The needs of that loop.
+pub ruleset looking = (needs, look-begins, not-met, met, look-again, look-less)

@@ -1,2 +1,2 @@
--- What the soundness test asks of each queue and each task.
+-- What the test asks of each record, each queue and each task.
 pub mod Tests

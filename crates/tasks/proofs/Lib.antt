@@ -1,3 +1,3 @@
 -- Facts behind the calls on tasks.
-pub mod Released
+pub mod Fits
 pub mod Cycles

@@ -19,10 +19,10 @@ fn short(s: State) -> State {
 pub fn memories() {
     let mut s = State::fresh();
     s = short(s);
-    s.clock = State::LIFETIME - 1;
+    s.words[State::CLOCK_AT] = State::LIFETIME - 1;
     s = ticked(s, 1);
     s = short(s);
-    s.total = 7;
+    s.words[State::TOTAL_AT] = 7;
     short(s);
 }
 
@@ -35,7 +35,7 @@ pub fn states() {
     s = ticked(s, 2);
     s = open(s, 513, 2);
     s = every(s, 4, &mut memory);
-    s.total = 7;
+    s.words[State::TOTAL_AT] = 7;
     s = open(s, 513, 2);
     every(s, 4, &mut memory);
 }

@@ -44,7 +44,7 @@ pub fn unsound() {
     let mut memory = [7u8; 16384];
     let mut s = State::fresh();
     s = open(s, 4, 2);
-    s.total = 5;
+    s.words[State::TOTAL_AT] = 5;
     s = open(s, 4, 2);
     every(s, 0, &mut memory);
     memory_shown(&memory);
@@ -68,7 +68,7 @@ pub fn lifetime() {
     let mut memory = [7u8; 16384];
     let mut s = State::fresh();
     s = open(s, 4, 2);
-    s.clock = State::LIFETIME - 1;
+    s.words[State::CLOCK_AT] = State::LIFETIME - 1;
     s = ticked(s, 1);
     s = open(s, 4, 2);
     every(s, 0, &mut memory);

@@ -46,7 +46,7 @@ pub fn refused() {
     s = open(s, 4, 2);
     s = stopping(s, &mut memory);
     shows(s, 0, &memory);
-    s.total = 5;
+    s.words[State::TOTAL_AT] = 5;
     shows(s, 0, &memory);
     shows(s, 0, &memory[0..16383]);
     shows(s, 0, &memory[0..0]);

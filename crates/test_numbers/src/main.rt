@@ -7,7 +7,7 @@ use test_lines::ticked;
 // -11: a share total that is no sum.
 fn unsound() {
     let mut s = State::fresh();
-    s.total = 5;
+    s.words[State::TOTAL_AT] = 5;
     s = after(b"clock", questions::clock(s));
     s = after(b"tick", ticks::tick(s));
     s = after(b"hard 4 1", creation::create_hard(s, 4, 1));
@@ -22,14 +22,14 @@ fn overrun() {
     s = ticked(s, 5);
     s = after(b"sleep", tasks::sleep(s));
     s = after(b"status 1", questions::status(s, TaskNo(1)));
-    s.total = 7;
+    s.words[State::TOTAL_AT] = 7;
     after(b"clock", questions::clock(s));
 }
 
 // -2.
 fn lifetime() {
     let mut s = State::fresh();
-    s.clock = State::LIFETIME - 1;
+    s.words[State::CLOCK_AT] = State::LIFETIME - 1;
     s = after(b"tick", ticks::tick(s));
     s = after(b"clock", questions::clock(s));
     after(b"nrt 3", creation::create_nrt(s, 3));

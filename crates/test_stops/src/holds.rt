@@ -1,9 +1,8 @@
-// What a state holds. A stopped kernel refuses every question, so its fields are read.
+// What a state holds. A stopped kernel refuses every question, so its words are read.
 ghost use Prim.Native.Nat.{_<_};
 ghost use Rattle.kernel.specs.Sizes.{task-count};
 use kernel::State;
 use kernel::Stop;
-use test_lines::signed;
 use test_lines::write;
 
 fn number(name: &[u8], n: u64) {
@@ -11,9 +10,13 @@ fn number(name: &[u8], n: u64) {
     test_lines::number(n);
 }
 
-fn link(name: &[u8], n: i64) {
-    write(name);
-    signed(n);
+fn link(name: &[u8], n: u32) {
+    if n == State::NONE {
+        write(name);
+        write(b"-1");
+        return;
+    }
+    number(name, n as u64);
 }
 
 fn reason(stop: Stop) -> i64 {
@@ -24,43 +27,41 @@ fn reason(stop: Stop) -> i64 {
     }
 }
 
-fn numbers(s: State) {
-    let stop = s.stop;
-    number(b"clock ", s.clock as u64);
+fn numbers(w: &[u32; State::WORDS]) {
+    number(b"clock ", words::clock(w) as u64);
     write(b", stop ");
-    signed(reason(stop));
-    number(b", running ", s.running.0 as u64);
-    number(b", share ", s.total as u64);
+    test_lines::signed(reason(words::stop(w)));
+    number(b", running ", words::running(w) as u64);
+    number(b", share ", words::total(w) as u64);
     write(b"\n");
 }
 
-fn firsts(s: State) {
-    let heads = s.heads;
-    link(b"first ready ", heads[State::READY_QUEUE]);
-    link(b", idle ", heads[State::IDLE_QUEUE]);
-    link(b", zombie ", heads[State::ZOMBIE_QUEUE]);
+fn firsts(w: &[u32; State::WORDS]) {
+    link(b"first ready ", words::head(w, State::READY_QUEUE));
+    link(b", idle ", words::head(w, State::IDLE_QUEUE));
+    link(b", zombie ", words::head(w, State::ZOMBIE_QUEUE));
     write(b"\n");
 }
 
-fn task(s: State, x: usize)
+fn task(w: &[u32; State::WORDS], x: usize)
     requires { ⌜ x < task-count ⌝ }
 {
-    let t = s.tasks[x];
-    let status = t.status;
+    let status = words::status(w, x);
     number(b"task ", x as u64);
     number(b": status ", kernel::status_number(status) as u64);
-    number(b", deadline ", t.deadline as u64);
-    link(b", next ", t.next);
-    link(b", previous ", t.previous);
+    number(b", deadline ", words::deadline(w, x) as u64);
+    link(b", next ", words::next(w, x));
+    link(b", previous ", words::previous(w, x));
     write(b"\n");
 }
 
 pub fn all(s: State) {
-    numbers(s);
-    firsts(s);
-    task(s, 0);
-    task(s, 1);
-    task(s, 2);
-    task(s, 3);
-    task(s, 4);
+    let w = s.words;
+    numbers(&w);
+    firsts(&w);
+    task(&w, 0);
+    task(&w, 1);
+    task(&w, 2);
+    task(&w, 3);
+    task(&w, 4);
 }

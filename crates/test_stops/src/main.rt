@@ -30,7 +30,7 @@ fn running(before: State) -> State {
 // Four ticks after this clock. At the next one the IDLE task and the zombie are due, and the running task is late.
 fn four_ticks_after(clock: u32) -> State {
     let mut s = State::fresh();
-    s.clock = clock;
+    s.words[State::CLOCK_AT] = clock;
     s = put_aside(s);
     s = running(s);
     ticked(s, 4)

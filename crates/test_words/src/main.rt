@@ -1,5 +1,5 @@
 // What the soundness test says of words: of each state on standard input (its words in the order of docs/LAYOUT.md, four bytes each, the highest first), and of those that
-// one bit tells from it.
+// one bit tells from it; and what calls give on those.
 mod flips;
 
 use kernel::State;
@@ -51,14 +51,16 @@ fn main() {
             return;
         }
         show(b"state ", state);
-        if words_sound::sound(&w) {
+        if soundness::sound(&w) {
             test_lines::write(b": sound");
         } else {
             test_lines::write(b": not sound");
         }
-        let found = flips::sound_beside(&mut w);
-        show(b", one bit away ", found);
-        test_lines::write(b" sound\n");
+        let found = flips::beside(State { words: w });
+        show(b", one bit away ", found.sound);
+        show(b" sound, ", found.refused);
+        show(b" answered -11, the others ", found.check);
+        test_lines::write(b"\n");
         state += 1;
     }
 }

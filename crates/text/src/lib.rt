@@ -6,7 +6,6 @@ ghost use Rattle.kernel.specs.Answer.{said};
 ghost use Rattle.text.specs.Text as Text;
 ghost use Rattle.text.specs.Text.{Continued, longest-number, longest-printed};
 use kernel::Answer;
-use kernel::TaskNo;
 
 // No number is longer: 2^64 - 1 and -2^63 have 20 characters.
 pub const LONGEST_NUMBER: usize = 20;
@@ -55,18 +54,14 @@ fn number_of(answer: Answer) -> i64
 }
 
 // What a call prints: answer, running task, clock.
-pub fn printed(
-    buffer: &mut [u8; LONGEST_PRINTED],
-    answer: Answer,
-    running: TaskNo,
-    clock: u32,
-) -> usize
-    ensures { λ r. ⌜ Continued (now (buffer .entry)) 0 (Text.printed (said answer .number) (running .0) clock) (now (buffer .exit)) r ⌝ }
-    ensures { λ r. ⌜ r ≤ longest-printed ⌝ }
+pub fn printed(buffer: &mut [u8], at: usize, answer: Answer, running: usize, clock: u32) -> usize
+    requires { ⌜ at + longest-printed ≤ length (now buffer) ⌝ }
+    ensures { λ r. ⌜ Continued (now (buffer .entry)) at (Text.printed (said answer .number) running clock) (now (buffer .exit)) r ⌝ }
+    ensures { λ r. ⌜ r ≤ at + longest-printed ⌝ }
 {
-    let a = number(buffer, 0, number_of(answer));
+    let a = number(buffer, at, number_of(answer));
     let b = put(buffer, a, b" ");
-    let c = decimal(buffer, b, running.0 as u64);
+    let c = decimal(buffer, b, running as u64);
     let d = put(buffer, c, b" ");
     let e = decimal(buffer, d, clock as u64);
     put(buffer, e, b"\n")

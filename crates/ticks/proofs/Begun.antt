@@ -1,9 +1,9 @@
 -- What holds while a legal tick that does not stop is under way. Assumes nothing.
 use mathlib.Core.Path.{_≡_, refl}
 use mathlib.Core.Bool.{false}
-use Prim.Native.Nat.{_+_}
+use mathlib.Core.List.{List}
+use Prim.Native.Nat.{ℕ, _+_}
 use native.Mathlib.Omega.{arith}
-use Rattle.kernel.specs.declared.State.{State}
 use Rattle.kernel.specs.Sizes.{lifetime}
 use Rattle.kernel.specs.Status.{zombie-queue}
 use Rattle.kernel.specs.Kernel.{Kernel, queue, with-clock}
@@ -19,9 +19,9 @@ use Rattle.laws_effects.proofs.Due.{frees}
 use Rattle.refusals.specs.Tested.{Legal}
 use Rattle.refusals.proofs.Answers.{allows}
 
-pub begun : {s : State} → Legal (verb tick) s → (s .clock + 1 ≡ lifetime → ⊥) → overrun (with-clock (seen s) (s .clock + 1)) ≡ false
-    → Freeing (with-clock (seen s) (s .clock + 1))
-begun {s} h ne e =
+pub begun : {w : List ℕ} → Legal (verb tick) w → (seen w .clock + 1 ≡ lifetime → ⊥) → overrun (with-clock (seen w) (seen w .clock + 1)) ≡ false
+    → Freeing (with-clock (seen w) (seen w .clock + 1))
+begun {w} h ne e =
     let g = h .sound .good in
     let going = allows h .going in
     (begins g going (omega (arith, before-lifetime g going)) e, earliest g)

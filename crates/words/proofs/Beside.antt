@@ -6,11 +6,14 @@ use native.Mathlib.Omega.{arith}
 use lib.ListN.{length}
 use Rattle.kernel.specs.Sizes.{task-count}
 use Rattle.kernel.specs.Status.{queue-count}
-use Rattle.kernel.specs.Kernel.{with-tasks}
-use Rattle.words.specs.Layout.{word, clock-at, stop-at, running-at, total-at, head-at, field, next-word, spare-word}
-use Rattle.words.specs.Codes.{stop-of}
-use Rattle.words.specs.Seen.{bare-in, seen}
-use Rattle.words.specs.Form.{Formed}
+use Rattle.kernel.specs.Kernel.{Bare, Kernel, queue, with-tasks}
+use Rattle.kernel.specs.Good.{Queued, standing}
+use Rattle.kernel.specs.Layout.{word, clock-at, stop-at, running-at, total-at, head-at, field, next-word, spare-word}
+use Rattle.kernel.specs.Codes.{stop-of}
+use Rattle.kernel.specs.Seen.{bare-in, seen}
+use Rattle.kernel.specs.Form.{Formed}
+use Rattle.kernel.specs.Sound.{LinksHold}
+use Rattle.kernel.specs.Shows.{Shows}
 use Rattle.words.proofs.Tables.{tabulate-same}
 use Rattle.words.proofs.Seen.{bare-same, semaphores-same, channels-same, sessions-same}
 
@@ -35,7 +38,7 @@ module _ {w v : List ℕ} where
   tasks-beside s = tabulate-same task-count _ _ (λ x l. bare-beside s x)
 
   module _ {a : ℕ} (s : Beside a w v) where
-    pub seen-beside : seen v ≡ with-tasks (seen w) (seen v .tasks) (seen v .queues)
+    seen-beside : seen v ≡ with-tasks (seen w) (seen v .tasks) (seen v .queues)
     seen-beside =
         λ i.
         record {
@@ -53,10 +56,22 @@ module _ {w v : List ℕ} where
         number : (j : ℕ) → j < head-at 0 → word v j ≡ word w j
         number j l = s .kept j (λ q lq e. omega arith) (λ x f lx c d e. omega arith)
 
-    pub formed-beside : Formed w → Formed v
-    formed-beside f =
+    -- So where tasks, queues and links are a kernel's, the words show it.
+    pub shows-beside : {ts : List Bare} {qs : List (List ℕ)} {k : Kernel} → seen v .tasks ≡ ts → seen v .queues ≡ qs → with-tasks (seen w) ts qs ≡ k
+        → Formed w → LinksHold v (standing k) (queue k) → Queued k → Shows v k
+    shows-beside {k = k} tasks queues rest f filed queued =
         record {
-          long = s .long ∙ f .long;
-          stop = subst (λ (n : ℕ). n ≤ 2) (sym (s .kept stop-at (λ q l e. omega arith) (λ x g l c d e. omega arith))) (f .stop);
-          spare = λ x g l b c. s .kept (field x g) (λ q lq e. omega arith) (λ y h ly d k e. omega arith) ∙ f .spare x g l b c;
+          kept = record {
+            formed = record {
+              long = s .long ∙ f .long;
+              stop = subst (λ (n : ℕ). n ≤ 2) (sym (s .kept stop-at (λ q l e. omega arith) (λ x g l c d e. omega arith))) (f .stop);
+              spare = λ x g l b c. s .kept (field x g) (λ q lq e. omega arith) (λ y h ly d k e. omega arith) ∙ f .spare x g l b c;
+            };
+            filed = subst (λ (j : Kernel). LinksHold v (standing j) (queue j)) (sym is) filed;
+            queues = subst Queued (sym is) queued;
+          };
+          is = is;
         }
+      where
+        is : seen v ≡ k
+        is = seen-beside ∙ (λ i. with-tasks (seen w) (tasks i) (queues i)) ∙ rest

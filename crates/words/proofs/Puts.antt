@@ -3,12 +3,13 @@ use mathlib.Core.Path.{_≡_, refl, _∙_}
 use mathlib.Core.List.{List, [], _∷_}
 use Prim.Native.Nat.{ℕ, zero, suc, _+_, _≤_, _<_}
 use native.Mathlib.Omega.{arith}
-use native.Mathlib.Decide.{decLt}
 use lib.ListN.{length, getD, set, length-set}
 use lib.Seq.{getD-set-same, getD-set-other}
-use borrow.Author.Tests.{lt-ltb, le-ltb}
+use lib.Dec.{ltb}
+use borrow.Author.Tests.{ltb-true, ltb-false, lt-ltb, le-ltb}
+use Rattle.kernel.proofs.Decided.{either}
 use Rattle.kernel.specs.Sizes.{task-count}
-use Rattle.words.specs.Layout.{word, field, head-at, next-word, previous-word}
+use Rattle.kernel.specs.Layout.{word, field, head-at, next-word, previous-word}
 use Rattle.words.specs.Writes.{puts, with-previous, with-lead}
 
 -- ---- several words, one behind the other
@@ -39,23 +40,13 @@ module _ (w : List ℕ) (x n : ℕ) where
   unfolding with-previous
   previous-some l = rw (lt-ltb x task-count l) refl
 
-  previous-none : task-count ≤ x → with-previous w x n ≡ w
-  unfolding with-previous
-  previous-none l = rw (le-ltb x task-count l) refl
-
   pub previous-length : length (with-previous w x n) ≡ length w
-  previous-length = go (decLt x task-count)
-    where
-      go : Dec (x < task-count) → length (with-previous w x n) ≡ length w
-      go (yes l) = rw (previous-some l) (length-set w (field x previous-word) n)
-      go (no ne) = rw (previous-none (omega arith)) refl
+  unfolding with-previous
+  previous-length = either (λ (v : List ℕ). length v ≡ length w) (ltb x task-count) (λ e. length-set w (field x previous-word) n) (λ e. refl)
 
   pub previous-kept : (j : ℕ) → (x < task-count → j ≡ field x previous-word → ⊥) → word (with-previous w x n) j ≡ word w j
-  previous-kept j ne = go (decLt x task-count)
-    where
-      go : Dec (x < task-count) → word (with-previous w x n) j ≡ word w j
-      go (yes l) = rw (previous-some l) (getD-set-other w (field x previous-word) j n 0 (ne l))
-      go (no nl) = rw (previous-none (omega arith)) refl
+  unfolding with-previous
+  previous-kept j ne = either (λ (v : List ℕ). word v j ≡ word w j) (ltb x task-count) (λ e. getD-set-other w (field x previous-word) j n 0 (ne (ltb-true x task-count e))) (λ e. refl)
 
 module _ (w : List ℕ) (q x n : ℕ) where
   pub lead-some : x < task-count → with-lead w q x n ≡ set w (field x next-word) n
@@ -67,15 +58,11 @@ module _ (w : List ℕ) (q x n : ℕ) where
   lead-none l = rw (le-ltb x task-count l) refl
 
   pub lead-length : length (with-lead w q x n) ≡ length w
-  lead-length = go (decLt x task-count)
-    where
-      go : Dec (x < task-count) → length (with-lead w q x n) ≡ length w
-      go (yes l) = rw (lead-some l) (length-set w (field x next-word) n)
-      go (no ne) = rw (lead-none (omega arith)) (length-set w (head-at q) n)
+  unfolding with-lead
+  lead-length = either (λ (v : List ℕ). length v ≡ length w) (ltb x task-count) (λ e. length-set w (field x next-word) n) (λ e. length-set w (head-at q) n)
 
   pub lead-kept : (j : ℕ) → (x < task-count → j ≡ field x next-word → ⊥) → (task-count ≤ x → j ≡ head-at q → ⊥) → word (with-lead w q x n) j ≡ word w j
-  lead-kept j ne nh = go (decLt x task-count)
-    where
-      go : Dec (x < task-count) → word (with-lead w q x n) j ≡ word w j
-      go (yes l) = rw (lead-some l) (getD-set-other w (field x next-word) j n 0 (ne l))
-      go (no nl) = let l : task-count ≤ x = omega arith in rw (lead-none l) (getD-set-other w (head-at q) j n 0 (nh l))
+  unfolding with-lead
+  lead-kept j ne nh =
+      either (λ (v : List ℕ). word v j ≡ word w j) (ltb x task-count)
+      (λ e. getD-set-other w (field x next-word) j n 0 (ne (ltb-true x task-count e))) (λ e. getD-set-other w (head-at q) j n 0 (nh (ltb-false x task-count e)))

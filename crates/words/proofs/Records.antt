@@ -1,15 +1,24 @@
--- The record of one task is written, up to its links. Assumes nothing.
-use mathlib.Core.Path.{_≡_}
-use mathlib.Core.List.{List}
+-- The record of one task is written: all of it up to its links, or its class. Assumes nothing.
+use mathlib.Core.Path.{_≡_, ap, ap₂, sym, subst, _∙_, refl}
+use mathlib.Core.List.{List, [], _∷_}
 use Prim.Native.Nat.{ℕ, _+_, _-_, _≤_, _<_}
 use native.Mathlib.Omega.{arith}
-use lib.ListN.{length, getD}
+use lib.ListN.{length, getD, set}
+use Rattle.kernel.specs.declared.Class.{Class}
 use Rattle.kernel.specs.Sizes.{task-count}
 use Rattle.kernel.specs.Status.{queue-count}
-use Rattle.words.specs.Layout.{word, head-at, record-at, record-size, field, next-word, previous-word, spare-word, word-count}
-use Rattle.words.specs.Writes.{puts}
+use Rattle.kernel.specs.Layout.{word, head-at, record-at, record-size, field, next-word, previous-word, spare-word, word-count, heads-at, semaphores-at, period-word, amount-word, status-word, deadline-word}
+use Rattle.kernel.specs.Kernel.{Bare, task, queue}
+use Rattle.kernel.proofs.Moves.{of-class, reclassed, reclassed-standing, reclassed-queues}
+use Rattle.kernel.specs.Codes.{class-of, period-code, amount-code, Classed, status-of}
+use Rattle.kernel.specs.Seen.{bare-in, seen}
+use Rattle.kernel.specs.Sound.{LinksHold}
+use Rattle.kernel.specs.Shows.{Kept, Shows}
+use Rattle.words.specs.Writes.{puts, with-class}
 use Rattle.words.proofs.Puts.{puts-length, puts-kept, puts-at}
-use Rattle.words.proofs.Beside.{Beside}
+use Rattle.words.proofs.Beside.{Beside, shows-beside}
+use Rattle.words.proofs.Tables.{tabulate-set}
+use Rattle.words.proofs.Seen.{task-seen, bare-same, queues-kept, links-kept}
 
 -- But for the words of the record of task i from number a to the spare ones, the words are the same; its links are these.
 pub record Own (a : ℕ) (w v : List ℕ) (i next previous : ℕ) : Type 0 where
@@ -42,3 +51,48 @@ module _ {a i next previous : ℕ} {w v : List ℕ} (o : Own a w v i next previo
 
   pub own-heads : (q : ℕ) → q < queue-count → word v (head-at q) ≡ word w (head-at q)
   own-heads q l = o .kept (head-at q) (λ f lf hf e. omega arith)
+
+-- ---- its class: the queues stay in order, and nothing else that is seen changes
+
+module _ {w : List ℕ} (i : ℕ) (c : Class) (l : i < task-count) (means : Classed c) (k : Kept w) where
+  abbrev v : List ℕ
+  v = with-class w i c
+
+  abbrev ns : List ℕ
+  ns = period-code c ∷ amount-code c ∷ []
+
+  kept : (j : ℕ) → ((f : ℕ) → f < status-word → j ≡ field i f → ⊥) → word v j ≡ word w j
+  kept j ne = puts-kept (record-at i) w period-word ns j (λ f lf e. ne f (omega arith) (omega arith))
+
+  at : (f : ℕ) → f < status-word → word v (field i f) ≡ getD ns f 0
+  at f lf = let e : field i f ≡ record-at i + period-word + f = omega arith in rw e (puts-at (record-at i) w period-word ns f lf (omega (arith, k .formed .long)))
+
+  beside : Beside period-word w v
+  beside = record { long = puts-length (record-at i) w period-word ns; kept = λ j nh nf. kept j (λ f lf. nf i f l (omega arith) (omega arith)) }
+
+  own-bare : bare-in v i ≡ of-class (task (seen w) i) c
+  own-bare =
+      (λ j.
+      record {
+        class = (ap₂ class-of (at period-word (omega arith)) (at amount-word (omega arith)) ∙ means) j;
+        status = status-of (kept (field i status-word) (λ f lf e. omega arith) j);
+        deadline = kept (field i deadline-word) (λ f lf e. omega arith) j;
+      })
+      ∙ ap (λ (a : Bare). of-class a c) (sym (task-seen w i l))
+
+  same-tasks : seen v .tasks ≡ reclassed (seen w) i c .tasks
+  same-tasks =
+      tabulate-set task-count (bare-in w) (bare-in v) i (λ x lx ne. bare-same w v x (λ f lf. kept (field x f) (λ g lg e. ne (omega arith))))
+      ∙ ap (set (seen w .tasks) i) own-bare
+
+  heads : (j : ℕ) → heads-at ≤ j → j < semaphores-at → word v j ≡ word w j
+  heads j a b = kept j (λ f lf e. omega arith)
+
+  links : (x f : ℕ) → x < task-count → next-word ≤ f → f < spare-word → word v (field x f) ≡ word w (field x f)
+  links x f lx a b = kept (field x f) (λ g lg e. omega arith)
+
+  pub class-set : Shows v (reclassed (seen w) i c)
+  class-set =
+      shows-beside beside same-tasks (queues-kept w v heads links) refl (k .formed)
+      (links-kept w v heads links _ _ (subst (λ (p : ℕ → ℕ). LinksHold w p (queue (seen w))) (sym (reclassed-standing (seen w) i c)) (k .filed)))
+      (reclassed-queues (seen w) i c (k .queues))

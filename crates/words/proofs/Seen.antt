@@ -1,6 +1,7 @@
 -- What is seen again: which words a part of the kernel is seen in. Assumes nothing.
 use mathlib.Core.Path.{_≡_, refl, ap, sym, subst, _∙_}
 use mathlib.Core.List.{List, [], _∷_}
+use mathlib.Core.Logic.{dite}
 use Prim.Native.Nat.{ℕ, zero, suc, _+_, _*_, _≤_, _<_}
 use native.Mathlib.Omega.{arith}
 use native.Mathlib.Decide.{decLt}
@@ -16,12 +17,12 @@ use Rattle.kernel.specs.declared.Session.the-variants.{Closed}
 use Rattle.kernel.specs.declared.Slot.{Slot}
 use Rattle.kernel.specs.Kernel.{Kernel, task, queue, semaphore, channel, session, blank, slot, slot-number, unused-semaphore, unused-channel, with-tasks}
 use Rattle.kernel.specs.Good.{Queued, standing}
-use Rattle.words.specs.Layout.{word, stop-at, heads-at, head-at, semaphores-at, semaphore-at, tasks-at, field, record-size, sessions-at, session-at, channels-at, channel-at, word-count}
-use Rattle.words.specs.Codes.{link, class-of, status-of, semaphore-of, latest-of, session-of}
-use Rattle.words.specs.Seen.{bare-in, next-in, previous-in, head-in, queue-in, semaphore-in, slot-in, channel-in, seen}
-use Rattle.words.specs.Sound.{LinksHold}
-use Rattle.words.specs.Shows.{Kept}
-use Rattle.words.proofs.Tables.{tabulate-at, tabulate-same}
+use Rattle.kernel.specs.Layout.{word, stop-at, heads-at, head-at, semaphores-at, semaphore-at, tasks-at, field, next-word, previous-word, spare-word, record-size, sessions-at, session-at, channels-at, channel-at, word-count}
+use Rattle.kernel.specs.Codes.{link, class-of, status-of, semaphore-of, latest-of, session-of}
+use Rattle.kernel.specs.Seen.{bare-in, next-in, previous-in, head-in, queue-in, semaphore-in, slot-in, channel-in, seen}
+use Rattle.kernel.specs.Sound.{LinksHold}
+use Rattle.kernel.specs.Shows.{Kept, Shows}
+use Rattle.words.proofs.Tables.{tabulate-at, tabulate-past, tabulate-same}
 
 module _ (w : List ℕ) (x : ℕ) where
   pub task-seen : x < task-count → task (seen w) x ≡ bare-in w x
@@ -39,6 +40,19 @@ module _ (w : List ℕ) (x : ℕ) where
   pub slot-seen : x < task-count * channel-count → getD (seen w .sessions) x (slot Closed) ≡ slot-in w x
   slot-seen l = tabulate-at (task-count * channel-count) (slot-in w) x (slot Closed) l
 
+  -- Past a table stands what stands for nothing.
+  pub task-past : task-count ≤ x → task (seen w) x ≡ blank
+  task-past l = tabulate-past task-count (bare-in w) x blank l
+
+  pub queue-past : queue-count ≤ x → queue (seen w) x ≡ []
+  queue-past l = tabulate-past queue-count (queue-in w) x [] l
+
+  pub semaphore-past : semaphore-count ≤ x → semaphore (seen w) x ≡ unused-semaphore
+  semaphore-past l = tabulate-past semaphore-count (semaphore-in w) x unused-semaphore l
+
+  pub channel-past : channel-count ≤ x → channel (seen w) x ≡ unused-channel
+  channel-past l = tabulate-past channel-count (channel-in w) x unused-channel l
+
 -- The session of task t on channel c.
 pub session-seen : (w : List ℕ) (c t : ℕ) → c < channel-count → t < task-count → session (seen w) c t ≡ slot-in w (slot-number c t) .session
 session-seen w c t lc lt = ap (λ (s : Slot). s .session) (slot-seen w (slot-number c t) (omega arith))
@@ -47,14 +61,13 @@ session-seen w c t lc lt = ap (λ (s : Slot). s .session) (slot-seen w (slot-num
 walk-same : (n : ℕ) (next next′ : ℕ → ℤ) → ((x : ℕ) → x < n → next′ x ≡ next x) → (most : ℕ) (head : ℤ) → walk n next′ most head ≡ walk n next most head
 unfolding walk
 walk-same n next next′ same zero head = refl
-walk-same n next next′ same (suc most) head = go (decLt (target n head) n) (walk-same n next next′ same most)
-  where
-    go : Dec (target n head < n) → ((h : ℤ) → walk n next′ most h ≡ walk n next most h) → walk n next′ (suc most) head ≡ walk n next (suc most) head
-    go (yes l) again =
-        walk-some n next′ most head l
-        ∙ ap (λ (xs : List ℕ). target n head ∷ xs) (again (next′ (target n head)) ∙ ap (walk n next most) (same (target n head) l))
-        ∙ sym (walk-some n next most head l)
-    go (no ne) again = walk-none n next′ (suc most) head (omega arith) ∙ sym (walk-none n next (suc most) head (omega arith))
+walk-same n next next′ same (suc most) head =
+    dite (decLt (target n head) n)
+    (λ l.
+    walk-some n next′ most head l
+    ∙ ap (λ (xs : List ℕ). target n head ∷ xs) (walk-same n next next′ same most (next′ (target n head)) ∙ ap (walk n next most) (same (target n head) l))
+    ∙ sym (walk-some n next most head l))
+    (λ ne. walk-none n next′ (suc most) head (omega arith) ∙ sym (walk-none n next (suc most) head (omega arith)))
 
 -- ---- the words from a to b are the same
 
@@ -73,39 +86,31 @@ module _ (w v : List ℕ) where
   pub sessions-same : Same w v sessions-at channels-at → seen v .sessions ≡ seen w .sessions
   sessions-same same = tabulate-same (task-count * channel-count) _ _ (λ z l. ap (λ (n : ℕ). slot (session-of n)) (same (session-at z) (omega arith) (omega arith)))
 
+  -- The words that are read for a channel's record.
+  pub channel-same : (c : ℕ) → ((f : ℕ) → f < 3 → word v (channel-at c + f) ≡ word w (channel-at c + f)) → channel-in v c ≡ channel-in w c
+  channel-same c h = λ i. record { size = h 0 (omega arith) i; buffers = h 1 (omega arith) i; latest = latest-of (h 2 (omega arith) i) }
+
   pub channels-same : Same w v channels-at word-count → seen v .channels ≡ seen w .channels
-  channels-same same =
-      tabulate-same channel-count _ _
-      (λ c l. λ i.
-      record {
-        size = same (channel-at c + 0) (omega arith) (omega arith) i;
-        buffers = same (channel-at c + 1) (omega arith) (omega arith) i;
-        latest = latest-of (same (channel-at c + 2) (omega arith) (omega arith) i);
-      })
+  channels-same same = tabulate-same channel-count _ _ (λ c l. channel-same c (λ f lf. same (channel-at c + f) (omega arith) (omega arith)))
 
-  module _ (heads : Same w v heads-at semaphores-at) (records : Same w v tasks-at sessions-at) where
-    own : (x f : ℕ) → x < task-count → f < record-size → word v (field x f) ≡ word w (field x f)
-    own x f l lf = records (field x f) (omega arith) (omega arith)
-
+  -- Heads and links stay: so the queues stay.
+  module _ (heads : Same w v heads-at semaphores-at) (links : (x f : ℕ) → x < task-count → next-word ≤ f → f < spare-word → word v (field x f) ≡ word w (field x f)) where
     next-same : (x : ℕ) → x < task-count → next-in v x ≡ next-in w x
-    next-same x l = ap link (own x 4 l (omega arith))
+    next-same x l = ap link (links x next-word l (omega arith) (omega arith))
 
     previous-same : (x : ℕ) → x < task-count → previous-in v x ≡ previous-in w x
-    previous-same x l = ap link (own x 5 l (omega arith))
+    previous-same x l = ap link (links x previous-word l (omega arith) (omega arith))
 
     head-same : (q : ℕ) → q < queue-count → head-in v q ≡ head-in w q
     head-same q l = ap link (heads (head-at q) (omega arith) (omega arith))
 
-    pub tasks-same : seen v .tasks ≡ seen w .tasks
-    tasks-same = tabulate-same task-count _ _ (λ x l. bare-same x (λ f lf. own x f l (omega arith)))
-
-    pub queues-same : seen v .queues ≡ seen w .queues
-    queues-same =
+    pub queues-kept : seen v .queues ≡ seen w .queues
+    queues-kept =
         tabulate-same queue-count _ _
         (λ q l. walk-same task-count (next-in w) (next-in v) next-same task-count (head-in v q) ∙ ap (walk task-count (next-in w) task-count) (head-same q l))
 
-    links-same : (p : ℕ → ℕ) (qs : ℕ → List ℕ) → LinksHold w p qs → LinksHold v p qs
-    links-same p qs f =
+    pub links-kept : (p : ℕ → ℕ) (qs : ℕ → List ℕ) → LinksHold w p qs → LinksHold v p qs
+    links-kept p qs f =
         record {
           linked = λ q l.
               let s = f .linked q l .whole in
@@ -118,19 +123,31 @@ module _ (w v : List ℕ) where
           alone-previous = λ x l h. previous-same x l ∙ f .alone-previous x l h;
         }
 
-    -- Heads and records stay: so the queues stay in order, whatever the other words become.
-    pub kept-same : length v ≡ length w → word v stop-at ≤ 2 → Kept w → Kept v
-    kept-same long stop k =
+  module _ (heads : Same w v heads-at semaphores-at) (records : Same w v tasks-at sessions-at) where
+    own : (x f : ℕ) → x < task-count → f < record-size → word v (field x f) ≡ word w (field x f)
+    own x f l lf = records (field x f) (omega arith) (omega arith)
+
+    own-links : (x f : ℕ) → x < task-count → next-word ≤ f → f < spare-word → word v (field x f) ≡ word w (field x f)
+    own-links x f l a b = own x f l (omega arith)
+
+    -- Heads and records stay: so the queues stay in order, whatever the other words become; and those alone are seen anew.
+    pub rest-set : {k : Kernel} → length v ≡ length w → word v stop-at ≤ 2 → Kept w → with-tasks (seen v) (seen w .tasks) (seen w .queues) ≡ k → Shows v k
+    rest-set long stop k e =
         record {
-          formed = record {
-            long = long ∙ k .formed .long;
-            stop = stop;
-            spare = λ x f l a b. own x f l b ∙ k .formed .spare x f l a b;
+          kept = record {
+            formed = record {
+              long = long ∙ k .formed .long;
+              stop = stop;
+              spare = λ x f l a b. own x f l b ∙ k .formed .spare x f l a b;
+            };
+            filed = subst (λ (j : Kernel). LinksHold v (standing j) (queue j)) (sym same) (links-kept heads own-links _ _ (k .filed));
+            queues = subst Queued (sym same) (k .queues);
           };
-          filed = again (λ (j : Kernel). LinksHold v (standing j) (queue j)) (links-same _ _ (k .filed));
-          queues = again Queued (k .queues);
+          is = same ∙ e;
         }
       where
-        -- Queues and their order are told from tasks and queues.
-        again : (P : Kernel → Type 0) → P (with-tasks (seen v) (seen w .tasks) (seen w .queues)) → P (seen v)
-        again P h = subst P (sym (λ i. with-tasks (seen v) (tasks-same i) (queues-same i))) h
+        tasks-same : seen v .tasks ≡ seen w .tasks
+        tasks-same = tabulate-same task-count _ _ (λ x l. bare-same x (λ f lf. own x f l (omega arith)))
+
+        same : seen v ≡ with-tasks (seen v) (seen w .tasks) (seen w .queues)
+        same = λ i. with-tasks (seen v) (tasks-same i) (queues-kept heads own-links i)

@@ -6,11 +6,10 @@ use lib.Dec.{ltb}
 use lib.ListN.{set}
 use Rattle.kernel.specs.declared.Class.{Class}
 use Rattle.kernel.specs.declared.Status.{Status}
-use Rattle.kernel.specs.declared.Task.{Task}
 use Rattle.kernel.specs.declared.Channel.{Channel}
 use Rattle.kernel.specs.Sizes.{task-count}
-use Rattle.words.specs.Layout.{head-at, record-at, field, period-word, status-word, next-word, previous-word, channel-at}
-use Rattle.words.specs.Codes.{link-code, period-code, amount-code, status-code, latest-code}
+use Rattle.kernel.specs.Layout.{head-at, record-at, field, period-word, status-word, next-word, previous-word, channel-at}
+use Rattle.kernel.specs.Codes.{period-code, amount-code, status-code, latest-code}
 
 -- These words stand, one behind the other, from b + f on.
 abbrev pub puts : List ℕ → ℕ → ℕ → List ℕ → List ℕ
@@ -28,10 +27,6 @@ with-links w x next previous = puts w (record-at x) next-word (next ∷ previous
 -- What files a task: another status and deadline, and these links.
 abbrev pub with-filing : List ℕ → ℕ → Status → ℕ → ℕ → ℕ → List ℕ
 with-filing w x st d next previous = puts w (record-at x) status-word (status-code st ∷ d ∷ next ∷ previous ∷ [])
-
--- All of it.
-abbrev pub with-task : List ℕ → ℕ → Task → List ℕ
-with-task w x t = with-filing (with-class w x (t .class)) x (t .status) (t .deadline) (link-code (t .next)) (link-code (t .previous))
 
 -- ---- its neighbours
 

@@ -4,10 +4,10 @@ ghost use Prim.Native.Nat.{_<_, _+_, _*_};
 ghost use lib.ListN.{length, set};
 ghost use Rattle.kernel.specs.Sizes.{task-count, semaphore-count, channel-count};
 ghost use Rattle.kernel.specs.Status.{queue-count, queue-of, stop-number};
-ghost use Rattle.words.specs.Layout.{word, clock-at, stop-at, running-at, total-at, head-at, semaphore-at, record-size, field, session-at, channel-at, word-count, next-word, previous-word};
-ghost use Rattle.words.specs.Codes.{link, link-code, status-code, semaphore-code, latest-code, session-code, stop-of, latest-of};
-ghost use Rattle.words.specs.Seen.{class-in, status-in, deadline-in, task-in, semaphore-in, slot-in, channel-in};
-ghost use Rattle.words.specs.Writes.{with-class, with-links, with-filing, with-task, with-previous, with-lead, with-channel};
+ghost use Rattle.kernel.specs.Layout.{word, clock-at, stop-at, running-at, total-at, head-at, semaphore-at, record-size, field, session-at, channel-at, word-count, next-word, previous-word};
+ghost use Rattle.kernel.specs.Codes.{link, status-code, semaphore-code, latest-code, session-code, stop-of, latest-of};
+ghost use Rattle.kernel.specs.Seen.{class-in, status-in, deadline-in, task-in, semaphore-in, slot-in, channel-in};
+ghost use Rattle.words.specs.Writes.{with-class, with-links, with-filing, with-previous, with-lead, with-channel};
 use kernel::Channel;
 use kernel::Class;
 use kernel::Latest;
@@ -18,9 +18,6 @@ use kernel::State;
 use kernel::Status;
 use kernel::Stop;
 use kernel::Task;
-
-// The word of the link -1.
-pub const NONE: u32 = 4294967295;
 
 // The word of a status whose tasks stand in queue 0. FREE is 0, SLEEP 1, EXE 2.
 const QUEUED: usize = 3;
@@ -300,24 +297,14 @@ pub fn set_filing(
 
 // ---- the whole record
 
-// A link, -1 where it leads to none, and its word.
+// A link, -1 where it leads to none.
 fn signed(n: u32) -> i64
     ensures { λ r. ⌜ r ≡ link n ⌝ }
 {
-    if n == NONE {
+    if n == State::NONE {
         return -1;
     }
     n as i64
-}
-
-fn unsigned(link: i64) -> u32
-    requires { ⌜ link-code link < 4294967296 ⌝ }
-    ensures { λ r. ⌜ r ≡ link-code link ⌝ }
-{
-    if link < 0 {
-        return NONE;
-    }
-    link as u32
 }
 
 pub fn task(w: &[u32; State::WORDS], x: usize) -> Task
@@ -338,20 +325,6 @@ pub fn task(w: &[u32; State::WORDS], x: usize) -> Task
         next,
         previous,
     }
-}
-
-pub fn set_task(w: &mut [u32; State::WORDS], x: usize, t: Task)
-    requires { ⌜ x < task-count ⌝ ∗ ⌜ status-code (t .status) < 4294967296 ⌝ ∗ ⌜ link-code (t .next) < 4294967296 ⌝ ∗ ⌜ link-code (t .previous) < 4294967296 ⌝ }
-    ensures { λ _. ⌜ now (w .exit) ≡ with-task (now (w .entry)) x t ⌝ }
-{
-    let class = t.class;
-    let status = t.status;
-    let next = t.next;
-    let previous = t.previous;
-    let n = unsigned(next);
-    let p = unsigned(previous);
-    set_class(w, x, class);
-    set_filing(w, x, status, t.deadline, n, p);
 }
 
 // ---- semaphores

@@ -1,11 +1,7 @@
 -- Whether a buffer is the latest, case by case. Assumes nothing.
-use mathlib.Core.Path.{refl}
 use borrow.Author.Needs.{needs}
 use Rattle.buffers.proofs.is_latest.Statement.{statement}
 use Rattle.buffers.proofs.is_latest.Tie as tie
 
-buffer : tie.Need-returns-2
-buffer c = rw (c .before .l .given .1) refl
-
 pub is-latest-spec : {M : Type 1} → statement M
-is-latest-spec = tie.close (tie.spec (λ c. search needs) (λ c. search needs) (λ c. search needs) buffer)
+is-latest-spec = tie.close (tie.spec (λ c. search needs) (λ c. search needs) (λ c. search needs) (λ c. rw (c .before .l .given .1)))

@@ -8,7 +8,7 @@ use Rattle.channels.proofs.held.Statement.{statement}
 use Rattle.channels.proofs.held.Tie as tie
 
 -- The buffer is that of the running task's session.
-is : (c : tie.After-buffer) → c .buffer .result ≡ buffer (own (seen (c .before .before .args .s)) (c .before .before .args .c))
+is : (c : tie.After-buffer) → c .buffer .result ≡ buffer (own (seen (c .before .before .args .w .now)) (c .before .before .args .c))
 is c = let h = c .before .before .pre in c .buffer .ensures ∙ ap buffer (c .before .own .ensures (h .is-channel) (is-task h))
 
 one-of-them : tie.Need-buffer-start-requires

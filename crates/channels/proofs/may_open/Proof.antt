@@ -13,10 +13,8 @@ table c =
     let lowest = c .before in
     let seven = lowest .before in
     let fit = seven .before in
-    let every = fit .before in
-    let s = every .before .args .s in
-    let first = seven .row .ensures _ s _ (every .every-call .ensures) (λ p. ap not (fit .fit .ensures)) in
-    λ m. record { tested = c .row2 .ensures _ s _ first (λ p. ap (λ (n : ℕ). eqb n channel-count) (lowest .lowest-channel .ensures)) }
+    let first = seven .row .ensures _ _ (fit .before .every-call .ensures) (λ p. ap not (fit .fit .ensures)) in
+    λ m. record { tested = c .row2 .ensures _ _ first (λ p. ap (λ (n : ℕ). eqb n channel-count) (lowest .lowest-channel .ensures)) }
 
 pub may-open-spec : {M : Type 1} → statement M
 may-open-spec = tie.close (tie.spec (λ c κs. search needs) (λ c κs. search needs) (λ c κs. search needs) (λ c κs. search needs) (λ c κs. search needs) table)

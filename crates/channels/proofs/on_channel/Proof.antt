@@ -3,7 +3,7 @@ use mathlib.Core.Path.{ap, _∙_}
 use mathlib.Core.Bool.{not}
 use borrow.Author.Needs.{needs}
 use Rattle.channels.specs.Session.{fits}
-use Rattle.channels.proofs.Passed.{is-task, is-channel}
+use Rattle.channels.proofs.Passed.{is-channel}
 use Rattle.channels.proofs.on_channel.Statement.{statement}
 use Rattle.channels.proofs.on_channel.Tie as tie
 
@@ -15,12 +15,9 @@ table c =
     let unused = six .before in
     let lent = unused .before in
     let k = lent .before in
-    let s = k .args .s in
-    let n = k .args .memory in
-    c .row2 .ensures _ s _
-    (six .row .ensures _ s _ (lent .lent-call .ensures) (λ p. unused .no-channel .ensures))
+    c .row2 .ensures _ _ (six .row .ensures _ _ (lent .lent-call .ensures) (λ p. unused .no-channel .ensures))
     (λ p.
-    ap not (has .fits2 .ensures ∙ ap (fits (k .args .kind)) (session .own .ensures (is-channel n (k .args .c) p) (is-task n (k .args .c) p))))
+    ap not (has .fits2 .ensures ∙ ap (fits (k .args .kind)) (session .own .ensures (is-channel (k .args .w .now) (k .args .memory) (k .args .c) p) (k .pre .good .runs .running))))
 
 pub on-channel-spec : {M : Type 1} → statement M
 on-channel-spec =

@@ -1,4 +1,4 @@
--- C's two answers, and what is made of them. Assumes nothing.
+-- C's answer to the read, and what is made of it. Assumes nothing.
 use mathlib.Core.Path.{_≡_}
 use mir.Syntax.{w64}
 use mir.Val.{toZ, ofZ}
@@ -12,10 +12,11 @@ bits c = search needs
 
 returns : tie.Need-returns
 returns c =
-    let printing = c .before in
-    let hearing = printing .before .before .before .before .before .before in
-    let reading = hearing .before .before .before .before .before .before .before in
-    answered (printing .print .result) (rw (bits reading) at (hearing .hear .ensures)) (printing .print .ensures) (c .onward .ensures)
+    let responding = c .before .before .before .before .before in
+    let counting = responding .before .before .before .before .before in
+    let reading = counting .before .before .before .before .before in
+    let n = rw (bits reading) at (counting .count .ensures .1) in
+    answered (reading .read .result) (rw n at (responding .respond .ensures)) (rw n at (c .onward .ensures))
 
 pub exchange-spec : {M : Type 1} → statement M
 exchange-spec =

@@ -4,11 +4,6 @@ use borrow.Author.Tests.{lt-ltb, le-ltb}
 use Rattle.console.proofs.onward.Statement.{statement}
 use Rattle.console.proofs.onward.Tie as tie
 
-some-byte : tie.Need-returns
-some-byte c = rw (lt-ltb 0 (c .before .before .args .h .read) (omega arith))
-
-no-byte : tie.Need-returns-2
-no-byte c = rw (le-ltb 0 (c .before .before .args .h .read) (omega arith))
-
 pub onward-spec : {M : Type 1} → statement M
-onward-spec = tie.close (tie.spec some-byte no-byte)
+onward-spec =
+    tie.close (tie.spec (λ c. rw (lt-ltb 0 (c .before .args .came) (omega arith))) (λ c. rw (le-ltb 0 (c .before .args .came) (omega arith))))

@@ -14,21 +14,17 @@ table : tie.Need-returns
 table c =
     let share = c .before in
     let four = share .before in
-    let free = four .before in
-    let seven = free .before in
+    let seven = four .before in
     let fits = seven .before in
     let every = fits .before in
-    let k = every .before in
-    let s = k .args .s in
-    let first = seven .row .ensures _ s _ (every .every-call .ensures) (λ p. ap not (fits .fitting .ensures)) in
-    let second = four .row2 .ensures _ s _ first (λ p. ap (λ (n : ℕ). eqb n task-count) (free .lowest-free .ensures)) in
-    λ m. record { tested = c .row3 .ensures _ s _ second (λ p. share .too-much .ensures (not-false _ (none-of p .1 .1 .1 .0))) }
+    let first = seven .row .ensures _ _ (every .every-call .ensures) (λ p. ap not (fits .fitting .ensures)) in
+    let second = four .row2 .ensures _ _ first (λ p. ap (λ (n : ℕ). eqb n task-count) (every .before .pre)) in
+    λ m. record { tested = c .row3 .ensures _ _ second (λ p. share .too-much .ensures (not-false _ (none-of p .1 .1 .1 .0))) }
 
 pub may-create-hard-spec : {M : Type 1} → statement M
 may-create-hard-spec =
     tie.close
     (tie.spec
-    (λ c κs. search needs)
     (λ c κs. search needs)
     (λ c κs. search needs)
     (λ c κs. search needs)

@@ -9,14 +9,11 @@ use Rattle.creation.proofs.may_create_nrt.Tie as tie
 
 table : tie.Need-returns
 table c =
-    let free = c .before in
-    let seven = free .before in
+    let seven = c .before in
     let every = seven .before in
-    let s = every .before .args .s in
-    let first = seven .row .ensures _ s _ (every .every-call .ensures) (λ p. refl) in
-    λ m. record { tested = c .row2 .ensures _ s _ first (λ p. ap (λ (n : ℕ). eqb n task-count) (free .lowest-free .ensures)) }
+    let first = seven .row .ensures _ _ (every .every-call .ensures) (λ p. refl) in
+    λ m. record { tested = c .row2 .ensures _ _ first (λ p. ap (λ (n : ℕ). eqb n task-count) (every .before .pre)) }
 
 pub may-create-nrt-spec : {M : Type 1} → statement M
 may-create-nrt-spec =
-    tie.close
-    (tie.spec (λ c κs. search needs) (λ c. search needs) (λ c κs. search needs) (λ c κs. search needs) (λ c κs. search needs) table)
+    tie.close (tie.spec (λ c κs. search needs) (λ c. search needs) (λ c κs. search needs) (λ c κs. search needs) table)

@@ -1,6 +1,6 @@
 -- The share total with one more task, compared with the whole. Assumes nothing.
 use mathlib.Core.Path.{refl, sym, _∙_}
-use mathlib.Core.Bool.{true, false, false≢true}
+use mathlib.Core.Bool.{false≢true}
 use Prim.Native.Nat.{_≤_}
 use native.Mathlib.Omega.{arith}
 use mir.Syntax.{w32, w64}
@@ -34,7 +34,7 @@ sum c =
     fits-under w64 _ 18446744073709551616 (omega arith) tt
 
 compared : tie.Need-returns-2
-compared c = λ f. rw (c .before .hard-share .ensures) refl
+compared c = λ f. rw (c .total .ensures, c .before .hard-share .ensures) refl
 
 pub too-much-spec : {M : Type 1} → statement M
 too-much-spec =
@@ -45,6 +45,7 @@ too-much-spec =
     period
     cost
     (λ c κs. sizes (fits c) .some-period)
+    (λ c κs. search needs)
     (λ c. search needs)
     sum
     (λ c. search needs)

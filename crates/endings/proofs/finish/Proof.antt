@@ -1,19 +1,21 @@
 -- A task that ends loses its sessions. Assumes nothing.
-use mathlib.Core.Path.{refl, ap, _∙_}
+use borrow.Author.Needs.{needs}
+use Rattle.kernel.specs.Sizes.{channel-count}
 use Rattle.kernel.specs.Kernel.{Kernel, with-sessions}
-use Rattle.kernel.specs.Tasks.{finish}
-use Rattle.kernel.proofs.Shows.{beside}
+use Rattle.kernel.specs.Moves.{move}
+use Rattle.kernel.specs.Tasks.{close-sessions, finish}
+use Rattle.kernel.proofs.Shows.{then}
 use Rattle.endings.proofs.finish.Statement.{statement}
 use Rattle.endings.proofs.finish.Tie as tie
 
+closes : tie.Need-close-sessions-requires
+closes c κs = let e = c .before in (e .ended .ensures .kept, e .before .before .pre .1)
+
 shows : tie.Need-returns
-unfolding finish
+unfolding finish move
 shows c =
-    let sessions = c .before .close-sessions .result in
-    record {
-      kept = beside (c .ended .ensures .kept);
-      is = ap (λ (k : Kernel). with-sessions k sessions) (c .ended .ensures .is) ∙ rw (c .before .close-sessions .ensures) refl;
-    }
+    let e = c .before .before in
+    then (λ (k : Kernel). with-sessions k (close-sessions channel-count (e .before .before .args .n) (k .sessions))) (e .ended .ensures) (c .close-sessions .ensures)
 
 pub finish-spec : {M : Type 1} → statement M
-finish-spec = tie.close (tie.spec (λ c κs. c .before .pre .1) (λ c κs. c .before .before .pre) shows)
+finish-spec = tie.close (tie.spec (λ c κs. search needs) closes shows)

@@ -14,10 +14,9 @@ table c =
     let unused = six .before in
     let eight = unused .before in
     let every = eight .before in
-    let s = every .before .args .s in
-    let first = eight .row .ensures _ s _ (every .every-call .ensures) (λ p. refl) in
-    let second = six .row2 .ensures _ s _ first (λ p. unused .no-task-in-use .ensures) in
-    λ m. record { tested = c .row3 .ensures _ s _ second (λ p. ap (λ (n : ℕ). eqb n ZOMBIE) (status .status-of .ensures)) }
+    let first = eight .row .ensures _ _ (every .every-call .ensures) (λ p. refl) in
+    let second = six .row2 .ensures _ _ first (λ p. unused .no-task-in-use .ensures) in
+    λ m. record { tested = c .row3 .ensures _ _ second (λ p. ap (λ (n : ℕ). eqb n ZOMBIE) (status .status-of .ensures)) }
 
 pub may-kill-spec : {M : Type 1} → statement M
 may-kill-spec =

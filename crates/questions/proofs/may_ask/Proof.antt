@@ -7,7 +7,7 @@ table : tie.Need-returns
 table c =
     let unused = c .before in
     let every = unused .before in
-    let t = c .row .ensures _ (every .before .args .s) _ (every .every-call .ensures) (λ p. unused .no-task-in-use .ensures) in
+    let t = c .row .ensures _ _ (every .every-call .ensures) (λ p. unused .no-task-in-use .ensures) in
     (λ m. record { tested = t }, λ m. record { tested = t })
 
 pub may-ask-spec : {M : Type 1} → statement M

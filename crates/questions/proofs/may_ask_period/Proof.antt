@@ -9,8 +9,7 @@ table c =
     let eight = unused .before in
     let nrt = eight .before in
     let every = nrt .before in
-    let s = every .before .args .s in
-    λ m. record { tested = c .row2 .ensures _ s _ (eight .row .ensures _ s _ (every .every-call .ensures) (λ p. nrt .no-period .ensures)) (λ p. unused .no-task-in-use .ensures) }
+    λ m. record { tested = c .row2 .ensures _ _ (eight .row .ensures _ _ (every .every-call .ensures) (λ p. nrt .no-period .ensures)) (λ p. unused .no-task-in-use .ensures) }
 
 pub may-ask-period-spec : {M : Type 1} → statement M
 may-ask-period-spec = tie.close (tie.spec (λ c κs. search needs) (λ c κs. search needs) (λ c κs. search needs) (λ c κs. search needs) (λ c κs. search needs) table)

@@ -1,17 +1,9 @@
--- Period answers as the table and the model say. Assumes nothing.
-use mathlib.Core.Path.{refl, ap, _∙_}
-use native.Mathlib.Omega.{arith}
-use lib.IntN.{pos}
-use mir.Facts.{toZ-pos}
-use mir.Syntax.{w64}
-use borrow.Author.Needs.{needs}
+-- The test, and then period. Assumes nothing.
 use Rattle.kernel.specs.Calls.{effect}
+use Rattle.refusals.proofs.Answers.{border}
 use Rattle.questions.proofs.period.Statement.{statement}
 use Rattle.questions.proofs.period.Tie as tie
 
-answers : tie.Need-returns
-unfolding effect
-answers c = let n = c .before in c .answer .ensures _ _ (n .before .may-ask-period .ensures) (toZ-pos w64 (omega arith) ∙ ap pos (n .period-of .ensures)) (λ m. refl)
-
 pub period-spec : {M : Type 1} → statement M
-period-spec = tie.close (tie.spec (λ c κs. search needs) (λ c κs. search needs) (λ c. search needs) (λ c κs. search needs) answers)
+unfolding effect
+period-spec = tie.close (tie.spec (λ c κs. search border) (λ c κs. search border) (λ c. search border) (λ c κs. search border) (λ c κs. search border) (λ c. search border))

@@ -1,37 +1,9 @@
--- Close answers as the table and the model say. Assumes nothing.
-use mathlib.Core.Path.{refl}
-use borrow.Author.Needs.{needs}
-use Rattle.kernel.specs.Channels as Channels
-use Rattle.kernel.specs.Calls as Calls
-use Rattle.kernel.specs.Calls.{effect, on-channel}
-use Rattle.refusals.specs.Tested.{Judged}
-use Rattle.refusals.proofs.Says.{of-length}
-use Rattle.refusals.proofs.Answers.{lets-pass, lent-refused, lent-took-effect}
-use Rattle.channels.proofs.Holds.{can-change}
+-- The test, and then close. Assumes nothing.
+use Rattle.kernel.specs.Calls.{effect}
+use Rattle.refusals.proofs.Answers.{border}
 use Rattle.reading.proofs.close.Statement.{statement}
 use Rattle.reading.proofs.close.Tie as tie
 
--- What the call is handed.
-abbrev k : tie.After-on-channel → tie.Start
-k c = c .before .before
-
-judged : (c : tie.After-on-channel) → Judged (on-channel (Calls.close (k c .args .channel .0))) (k c .args .s) (k c .args .memory .now) (c .on-channel .result)
-judged c = record { tested = of-length (c .on-channel .ensures) (k c .args .memory .now) refl }
-
-ends : tie.Need-with-own-requires
-ends c κs = let g = lets-pass (judged (c .before .before)) (c .enum-told2 .given .1) in can-change (g .sound) (g .allowed .1 .0)
-
-refuses : tie.Need-returns
-unfolding effect
-refuses c = let v = c .before in rw (c .refuse .ensures) (lent-refused (judged (v .before .before)) (v .enum-told .given .1) refl)
-
-takes-effect : tie.Need-returns-2
-unfolding effect Channels.close
-takes-effect c =
-    let e = c .before .before in
-    rw (c .done .ensures) (lent-took-effect (judged (e .before .before)) (e .enum-told2 .given .1) refl (c .before .with-own .ensures))
-
 pub close-spec : {M : Type 1} → statement M
-close-spec =
-    tie.close
-    (tie.spec (λ c κs. search needs) (λ c. search needs) (λ c κs. search needs) (λ c. search needs) ends (λ c κs. search needs) refuses takes-effect)
+unfolding effect
+close-spec = tie.close (tie.spec (λ c κs. search border) (λ c κs. search border) (λ c. search border) (λ c κs. search border) (λ c κs. search border) (λ c. search border))

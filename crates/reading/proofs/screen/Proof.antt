@@ -1,39 +1,26 @@
--- The screen call answers as the table and the model say. Assumes nothing.
-use mathlib.Core.Path.{_≡_, refl, ap, sym}
-use mathlib.Core.Option.{some}
-use native.Mathlib.Omega.{arith}
-use lib.ListN.{length}
+-- The test, and then the screen call. Assumes nothing.
+use mathlib.Core.Path.{_≡_, refl}
 use mir.Syntax.{w64}
 use mir.Val.{toZ, ofZ}
 use borrow.Author.Needs.{needs}
-use Rattle.kernel.specs.Calls as Calls
-use Rattle.kernel.specs.Calls.{effect, standby, on-channel}
-use Rattle.kernel.specs.Slices.{slice, part-of}
-use Rattle.refusals.specs.Tested.{Judged}
-use Rattle.refusals.proofs.Says.{of-length}
-use Rattle.reading.proofs.HandsBack.{all-of, shows, showable}
+use Rattle.kernel.specs.Calls.{effect}
+use Rattle.kernel.specs.Slices.{slice}
+use Rattle.kernel.specs.Promise.{lent}
+use Rattle.refusals.proofs.Answers.{sound-answers, unsound-answers, unsound-row, border}
 use Rattle.reading.proofs.screen.Statement.{statement}
 use Rattle.reading.proofs.screen.Tie as tie
 
--- What the call is handed.
-abbrev k : tie.After-on-channel → tie.Start
-k c = c .before .before .before
-
-judged : (c : tie.After-on-channel) → Judged (on-channel (Calls.screen (k c .args .channel .0) (k c .args .standby .now))) (k c .args .s) (k c .args .memory .now) (c .on-channel .result)
-judged c = record { tested = of-length (c .on-channel .ensures) (k c .args .memory .now) refl }
-
-can : tie.Need-shown-requires
-can c κs = (showable (judged (c .before .before)) (λ a. a), omega arith)
-
-hands-back : tie.Need-returns
+refuses : tie.Need-returns
 unfolding effect
-hands-back c =
-    let n = c .before in
-    let f = n .before in
-    let v = f .before in
-    let bits : toZ w64 (ofZ w64 (n .number .result)) ≡ n .number .result = search needs in
-    rw (bits, n .number .ensures, f .refuses .ensures, c .shown .ensures)
-    (shows (record { memory = slice (k v .args .memory); standby = slice (k v .args .standby) }) (k v .args .channel .0) standby (part-of (slice (k v .args .standby)) 0 (length (k v .args .standby .now))) refl (ap some (sym (all-of (slice (k v .args .standby))))) (v .on-channel .result) (judged v))
+refuses c =
+    let t = c .before in
+    let k = t .before .before .before .before .before .before .args in
+    let bits : toZ w64 (ofZ w64 (c .unsound-number .result)) ≡ c .unsound-number .result = search needs in
+    rw (bits, c .unsound-number .ensures)
+    (unsound-answers (t .before .sound .ensures) (lent (slice (k .memory)) (slice (k .standby))) (t .if1 .taken) (unsound-row (k .s .words) (k .memory .now)) refl)
+
+answers : tie.Need-returns-2
+answers c = let t = c .before .before .before .before in sound-answers (t .before .sound .ensures) (t .if1 .left) (c .screen-known .ensures)
 
 pub screen-spec : {M : Type 1} → statement M
-screen-spec = tie.close (tie.spec (λ c κs. search needs) (λ c κs. search needs) (λ c κs. search needs) can hands-back)
+screen-spec = tie.close (tie.spec (λ c κs. search needs) (λ c κs. search needs) refuses (λ c κs. search border) answers)

@@ -1,40 +1,30 @@
--- A showing answers as the table and the model say. Assumes nothing.
+-- The test, and then a showing. Assumes nothing.
 use mathlib.Core.Path.{_≡_, refl}
-use native.Mathlib.Omega.{arith}
 use mir.Syntax.{w64}
 use mir.Val.{toZ, ofZ}
 use borrow.Author.Needs.{needs}
-use Rattle.kernel.specs.Calls as Calls
-use Rattle.kernel.specs.Calls.{effect, part, on-channel}
-use Rattle.kernel.specs.Slices.{slice, part-of}
-use Rattle.refusals.specs.Tested.{Judged}
-use Rattle.refusals.proofs.Says.{of-length}
-use Rattle.reading.proofs.HandsBack.{shows, showable}
+use Rattle.kernel.specs.Calls.{effect}
+use Rattle.kernel.specs.Slices.{slice}
+use Rattle.kernel.specs.Promise.{lent}
+use Rattle.refusals.proofs.Answers.{sound-answers, unsound-answers, unsound-row, border}
 use Rattle.reading.proofs.showing.Statement.{statement}
 use Rattle.reading.proofs.showing.Tie as tie
 
--- What the call is handed.
-abbrev k : tie.After-on-channel → tie.Start
-k c = c .before .before
-
-judged : (c : tie.After-on-channel) → Judged (on-channel (Calls.showing (k c .args .channel .0))) (k c .args .s) (k c .args .memory .now) (c .on-channel .result)
-judged c = record { tested = of-length (c .on-channel .ensures) (k c .args .memory .now) refl }
-
-can : tie.Need-shown-requires
-can c κs = (showable (judged (c .before .before)) (λ a. a), omega arith)
-
-hands-back : tie.Need-returns
+refuses : tie.Need-returns
 unfolding effect
-hands-back c =
+refuses c =
     let n = c .before in
-    let f = n .before in
-    let v = f .before in
-    let bits : toZ w64 (ofZ w64 (n .number .result)) ≡ n .number .result = search needs in
+    let t = n .before in
+    let k = t .before .before .before .before .before .args in
+    let bits : toZ w64 (ofZ w64 (n .unsound-number .result)) ≡ n .unsound-number .result = search needs in
     λ text.
-    rw (bits, n .number .ensures, f .refuses .ensures, c .shown .ensures)
-    (shows (record { memory = slice (k v .args .memory); standby = text }) (k v .args .channel .0) (part 0 0) (part-of (slice (k v .args .memory)) 0 0) refl refl (v .on-channel .result) (judged v))
+    rw (bits, n .unsound-number .ensures, c .part .ensures)
+    (unsound-answers (t .before .sound .ensures) (lent (slice (k .memory)) text) (t .if1 .taken) (unsound-row (k .s .words) (k .memory .now)) refl)
+
+answers : tie.Need-returns-2
+answers c =
+    let t = c .before .before .before .before in
+    λ text. sound-answers (t .before .sound .ensures) (t .if1 .left) (c .showing-known .ensures text)
 
 pub showing-spec : {M : Type 1} → statement M
-showing-spec =
-    tie.close
-    (tie.spec (λ c κs. search needs) (λ c κs. search needs) (λ c κs. search needs) can hands-back)
+showing-spec = tie.close (tie.spec (λ c κs. search needs) (λ c κs. search needs) (λ c κs. search needs) refuses (λ c κs. search border) answers)

@@ -1,5 +1,4 @@
 -- The message in its place, or the first bytes of the other slice. Assumes nothing.
-use mathlib.Core.Path.{refl}
 use native.Mathlib.Omega.{arith}
 use borrow.Author.Needs.{needs}
 use Rattle.channels.proofs.Holds.{held-inside}
@@ -13,10 +12,10 @@ fits : tie.Need-part-requires-2
 fits c κs =
     let h = c .before in
     let p = h .before in
-    let e = p .before in
-    let k = e .before .before .before .before in
-    let size = k .pre .0 .size (e .enum-told2 .given .1) in
-    rw (p .held .ensures, h .channel-of .ensures) (omega (arith, held-inside (k .pre .0 .holds (e .enum-told2 .given .1))))
+    let t = p .before in
+    let k = t .before .before .before .before in
+    let size = k .pre .0 .size (t .enum-told2 .given .1) in
+    rw (p .held .ensures, h .channel-of .ensures) (omega (arith, held-inside (k .pre .0 .holds (t .enum-told2 .given .1))))
 
 other : tie.Need-returns
 other c = rw (c .before .enum-told .given .1) (c .part .ensures)
@@ -25,8 +24,8 @@ message : tie.Need-returns-2
 message c =
     let h = c .before .before in
     let p = h .before in
-    let e = p .before in
-    rw (e .enum-told2 .given .1, ← (p .held .ensures), ← (h .channel-of .ensures)) (c .part2 .ensures)
+    let t = p .before in
+    rw (t .enum-told2 .given .1, ← (p .held .ensures), ← (h .channel-of .ensures)) (c .part2 .ensures)
 
 pub shown-spec : {M : Type 1} → statement M
 shown-spec =

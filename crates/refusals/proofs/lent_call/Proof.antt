@@ -7,14 +7,10 @@ use Rattle.refusals.proofs.lent_call.Statement.{statement}
 use Rattle.refusals.proofs.lent_call.Tie as tie
 
 wrong-length : tie.Need-returns
-wrong-length c =
-    let every = c .before .every-call .ensures in
-    record { sound = every .sound; decided = every .decided; says = rw (ne-eqb (c .before .before .args .memory) memory-size (c .if1 .taken)) refl }
+wrong-length c = record { says = rw (ne-eqb (c .before .args .memory) memory-size (c .if1 .taken)) refl }
 
 right-length : tie.Need-returns-2
-right-length c =
-    let every = c .before .every-call .ensures in
-    record { sound = every .sound; decided = every .decided; says = rw (eq-eqb (c .before .before .args .memory) memory-size (c .if1 .left)) (every .says) }
+right-length c = let k = c .before in record { says = rw (eq-eqb (k .before .args .memory) memory-size (k .if1 .left)) (c .every-call .ensures .says) }
 
 pub lent-call-spec : {M : Type 1} → statement M
-lent-call-spec = tie.close (tie.spec (λ c κs. search needs) wrong-length right-length)
+lent-call-spec = tie.close (tie.spec wrong-length (λ c κs. search needs) right-length)

@@ -1,47 +1,61 @@
--- A block is read byte by byte. Assumes nothing.
+-- A block is read byte by byte, as long as there is room. Assumes nothing.
 use mathlib.Core.Logic.{⊎-elim}
-use Prim.Native.Nat.{_-_}
+use Prim.Native.Nat.{_+_, _-_, _≤_}
 use native.Mathlib.Omega.{arith}
 use borrow.Author.Needs.{needs}
+use borrow.Author.Tests.{leb-true, leb-false}
 use lib.ListN.{length}
-use Rattle.io.proofs.Counting.{front, counts}
-use Rattle.script.proofs.Underway.{SoFar, begins, line-ends, line-goes-on, all-read}
+use Rattle.io.proofs.Counting.{counts}
+use Rattle.text.specs.Text.{longest-printed}
+use Rattle.script.proofs.Underway.{SoFar, begins, line-ends, line-goes-on}
 use Rattle.script.proofs.block.Statement.{statement}
 use Rattle.script.proofs.block.Tie as tie
 
 abbrev Inv-loop : tie.InvT-loop
-Inv-loop line₀ begun bytes paper₀ out₀ t₀ n₀ printed₀ i₀ line paper out t n printed i = SoFar bytes t₀ line₀ begun (length paper₀) line paper t n printed i
+Inv-loop w₀ line₀ begun bytes paper₀ room n₀ printed₀ i₀ w line paper n printed i = SoFar bytes w₀ line₀ begun (length paper₀) line paper w n printed i
 
 abbrev μ-loop : tie.MeasureT-loop
-μ-loop line₀ begun bytes paper₀ out₀ t₀ n₀ printed₀ i₀ line paper out t n printed i = length bytes - i
+μ-loop w₀ line₀ begun bytes paper₀ room n₀ printed₀ i₀ w line paper n printed i = length bytes - i
 
 starts : tie.Need-loop-holds Inv-loop μ-loop
-starts c = let k = c .before .before .before in begins (k .args .bytes .now) (k .args .s) (k .args .line .now) (k .args .begun) (k .args .paper .now) (k .pre .0)
+starts c = let k = c .before .before .before in begins (k .args .bytes .now) (k .args .w .now) (k .args .line .now) (k .args .begun) (k .args .paper .now) (k .pre .0)
 
-counted : tie.Need-slice-aggregate-put Inv-loop μ-loop
-counted c = let e = c .before .before .before .ended in front (e .result .printed) (e .last .1 .1 .1 .0) (e .ensures .fits .within)
+-- A printed line more has room where the test says so.
+room : (c : tie.Then1 Inv-loop μ-loop) → c .before .before .loop .printed + longest-printed ≤ length (c .before .before .before .before .before .before .args .paper .now)
+room c =
+    let start = c .before .before .before .before .before .before in
+    omega (arith, leb-true (c .before .before .loop .printed) (length (start .args .paper .now) - longest-printed) (c .if1 .taken), start .pre .1)
 
-has-room : tie.Need-put-requires Inv-loop μ-loop
+has-room : tie.Need-ended-requires Inv-loop μ-loop
 has-room c κs =
-    let e = c .before .before .before .ended in
-    let l = c .before .before .before .before .before .before .before .before in
-    let f = l .before .loop .inv in
-    omega (arith, f .room, f .paper-size, e .ensures .fits .short, l .loop-test .taken, front (e .result .printed) (e .last .1 .1 .1 .0) (e .ensures .fits .within))
+    let i = c .before .before .before .before .before in
+    let f = i .before .before .loop .inv in
+    (f .line-size, omega (arith, room i, f .paper-size))
 
 goes-on : tie.Need-loop-again Inv-loop μ-loop
 goes-on c =
-    let test = c .before .before in
-    let f = test .before .loop .inv in
-    let more = test .loop-test .taken in
+    let i = c .before .before in
+    let f = i .before .before .loop .inv in
+    let more = i .before .loop-test .taken in
     ⊎-elim
-    (λ w. rw (w .10, w .11, w .13, w .14, w .15) (line-ends f more (w .0 .taken) (w .3 .ensures) (w .7 .ensures)))
-    (λ w. rw (w .5, w .6, w .8, w .9, w .10) (line-goes-on f more (w .0 .left) (w .2 .ensures) (w .2 .kept .0)))
-    (c .if1 .came)
+    (λ w. rw (w .7, w .8, w .9, w .10, w .11) (line-ends f more (w .0 .taken) (room i) (w .4 .ensures)))
+    (λ w. rw (w .5, w .6, w .7, w .8, w .9) (line-goes-on f more (w .0 .left) (w .2 .ensures) (w .2 .kept .0)))
+    (c .if2 .came)
 
-ends : tie.Need-returns Inv-loop μ-loop
+-- The paper is full, or the block is read.
+full : tie.Need-returns Inv-loop μ-loop
+full c =
+    let l = c .before .before .loop in
+    let f = l .inv in
+    let start = c .before .before .before .before .before .before in
+    let over = leb-false (l .printed) (length (start .args .paper .now) - longest-printed) (c .if1 .left) in
+    (counts (l .printed) (l .paper) (omega (arith, f .fits, f .paper-size)), (f .within, ((λ p. f .some (omega (arith, over))), f .reads)))
+
+ends : tie.Need-returns-2 Inv-loop μ-loop
 ends c =
-    let f = c .before .loop .inv in
-    (counts (c .before .loop .printed) (c .before .loop .paper) (omega (arith, f .room, f .paper-size, f .inside)), all-read f (c .loop-test .left))
+    let l = c .before .loop in
+    let f = l .inv in
+    (counts (l .printed) (l .paper) (omega (arith, f .fits, f .paper-size)), (f .within, ((λ p. omega (arith, c .loop-test .left)), f .reads)))
 
 pub block-spec : {M : Type 1} → statement M
 block-spec =
@@ -49,16 +63,17 @@ block-spec =
     (tie.spec
     Inv-loop
     μ-loop
+    (λ c. search needs)
     starts
     (λ c. search needs)
-    (λ c κs. c .before .before .before .before .before .loop .inv .line-size)
-    (λ c. c .before .before .ended .ensures .fits .within)
-    counted
     has-room
-    (λ c κs. c .before .before .before .before .loop .inv .line-size)
+    (λ c κs. c .before .before .before .before .before .loop .inv .line-size)
     (λ c. search needs)
-    (λ c. search needs)
+    (λ c. omega (arith, c .before .before .before .loop-test .taken))
     goes-on
+    (λ c. search needs)
+    (λ c. search needs)
+    full
     (λ c. search needs)
     (λ c. search needs)
     ends)

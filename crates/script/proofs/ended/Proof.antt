@@ -6,12 +6,20 @@ use Rattle.script.proofs.Begun.{whole-ended, long-ended}
 use Rattle.script.proofs.ended.Statement.{statement}
 use Rattle.script.proofs.ended.Tie as tie
 
+whole : tie.Need-returns
+whole c = let s = c .before .before in whole-ended (s .before .before .before .before .if1 .taken) (s .step .ensures)
+
+long : tie.Need-returns-2
+long c = let u = c .before .before in long-ended (u .before .before .if1 .left) (u .unknown .ensures)
+
 pub ended-spec : {M : Type 1} → statement M
 ended-spec =
     tie.close
     (tie.spec
-    (λ c. let k = c .before .before .before in front (k .args .n) (k .args .line .now) (omega (arith, k .pre)))
+    (λ c. let i = c .before .before in let k = i .before .before .before in front (k .args .n) (k .args .line .now) (omega (arith, k .pre .0, i .if1 .taken)))
     (λ c κs. search needs)
     (λ c κs. search needs)
-    (λ c. whole-ended (c .before .before .before .if1 .taken) (c .step .ensures))
-    (λ c. long-ended (c .before .before .if1 .left) (c .unknown .ensures)))
+    (λ c. search needs)
+    whole
+    (λ c. search needs)
+    long)

@@ -1,4 +1,4 @@
--- The first line is put at the start of the buffer. Assumes nothing.
+-- The first line is put at the start of the paper. Assumes nothing.
 use native.Mathlib.Omega.{arith}
 use borrow.Author.Needs.{needs}
 use Rattle.io.proofs.Counting.{counts}
@@ -7,7 +7,7 @@ use Rattle.script.proofs.title.Statement.{statement}
 use Rattle.script.proofs.title.Tie as tie
 
 says : tie.Need-returns
-says c = (counts (c .put .result) (c .put .last .0) (inside (c .put .ensures) (omega arith)), c .put .ensures .holds)
+says c = let p = c .before .before in (counts (p .put .result) (p .put .last .0) (inside (p .put .ensures) (omega arith)), p .put .ensures .holds)
 
 pub title-spec : {M : Type 1} → statement M
-title-spec = tie.close (tie.spec (λ c. search needs) (λ c κs. search needs) says)
+title-spec = tie.close (tie.spec (λ c. search needs) (λ c κs. omega (arith, c .before .before .before .pre)) (λ c. search needs) says)

@@ -9,8 +9,7 @@ table c =
     let six = waited .before in
     let unused = six .before in
     let every = unused .before in
-    let s = every .before .args .s in
-    λ m. record { tested = c .row2 .ensures _ s _ (six .row .ensures _ s _ (every .every-call .ensures) (λ p. unused .no-semaphore .ensures)) (λ p. waited .has-waiters .ensures) }
+    λ m. record { tested = c .row2 .ensures _ _ (six .row .ensures _ _ (every .every-call .ensures) (λ p. unused .no-semaphore .ensures)) (λ p. waited .has-waiters .ensures) }
 
 pub may-delete-spec : {M : Type 1} → statement M
 may-delete-spec = tie.close (tie.spec (λ c κs. search needs) (λ c κs. search needs) (λ c κs. search needs) (λ c κs. search needs) (λ c κs. search needs) table)

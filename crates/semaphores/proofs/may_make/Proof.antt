@@ -9,12 +9,9 @@ use Rattle.semaphores.proofs.may_make.Tie as tie
 
 table : tie.Need-returns
 table c =
-    let lowest = c .before in
-    let seven = lowest .before in
+    let seven = c .before in
     let every = seven .before in
-    let s = every .before .args .s in
-    λ m. record { tested = c .row2 .ensures _ s _ (seven .row .ensures _ s _ (every .every-call .ensures) (λ p. refl)) (λ p. ap (λ (n : ℕ). eqb n semaphore-count) (lowest .lowest .ensures)) }
+    λ m. record { tested = c .row2 .ensures _ _ (seven .row .ensures _ _ (every .every-call .ensures) (λ p. refl)) (λ p. ap (λ (n : ℕ). eqb n semaphore-count) (every .before .pre)) }
 
 pub may-make-spec : {M : Type 1} → statement M
-may-make-spec =
-    tie.close (tie.spec (λ c κs. search needs) (λ c. search needs) (λ c κs. search needs) (λ c κs. search needs) (λ c κs. search needs) table)
+may-make-spec = tie.close (tie.spec (λ c κs. search needs) (λ c. search needs) (λ c κs. search needs) (λ c κs. search needs) table)

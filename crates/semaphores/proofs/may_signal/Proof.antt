@@ -13,9 +13,8 @@ table c =
     let six = count .before in
     let unused = six .before in
     let every = unused .before in
-    let s = every .before .args .s in
     λ m. record {
-      tested = c .row2 .ensures _ s _ (six .row .ensures _ s _ (every .every-call .ensures) (λ p. unused .no-semaphore .ensures))
+      tested = c .row2 .ensures _ _ (six .row .ensures _ _ (every .every-call .ensures) (λ p. unused .no-semaphore .ensures))
           (λ p. ap (λ (n : ℕ). eqb n highest-count) (count .count-of .ensures));
     }
 

@@ -9,8 +9,7 @@ table c =
     let eight = unused .before in
     let barred = eight .before in
     let every = barred .before in
-    let s = every .before .args .s in
-    λ m. record { tested = c .row2 .ensures _ s _ (eight .row .ensures _ s _ (every .every-call .ensures) (λ p. barred .never-waits .ensures)) (λ p. unused .no-semaphore .ensures) }
+    λ m. record { tested = c .row2 .ensures _ _ (eight .row .ensures _ _ (every .every-call .ensures) (λ p. barred .never-waits .ensures)) (λ p. unused .no-semaphore .ensures) }
 
 pub may-wait-spec : {M : Type 1} → statement M
 may-wait-spec = tie.close (tie.spec (λ c κs. search needs) (λ c κs. search needs) (λ c κs. search needs) (λ c κs. search needs) (λ c κs. search needs) table)

@@ -1,25 +1,9 @@
--- Signal answers as the table and the model say. Assumes nothing.
-use mathlib.Core.Path.{refl}
-use borrow.Author.Needs.{needs}
+-- The test, and then signal. Assumes nothing.
 use Rattle.kernel.specs.Calls.{effect}
-use Rattle.refusals.proofs.Answers.{legal, refused, took-effect}
+use Rattle.refusals.proofs.Answers.{border}
 use Rattle.semaphores.proofs.signal.Statement.{statement}
 use Rattle.semaphores.proofs.signal.Tie as tie
 
-may : tie.Need-signalled-requires
-may c κs = legal (c .before .before .may-signal .ensures) (c .enum-told2 .given .1)
-
-refuses : tie.Need-returns
-unfolding effect
-refuses c = let v = c .before in rw (c .refuse .ensures) (refused (v .before .before .may-signal .ensures) (v .enum-told .given .1) (λ m. refl))
-
-takes-effect : tie.Need-returns-2
-unfolding effect
-takes-effect c =
-    let e = c .before .before in
-    rw (c .done .ensures) (took-effect (e .before .before .may-signal .ensures) (e .enum-told2 .given .1) (λ m. refl) (c .before .signalled .ensures))
-
 pub signal-spec : {M : Type 1} → statement M
-signal-spec =
-    tie.close
-    (tie.spec (λ c κs. search needs) (λ c. search needs) (λ c κs. search needs) (λ c. search needs) may (λ c κs. search needs) refuses takes-effect)
+unfolding effect
+signal-spec = tie.close (tie.spec (λ c κs. search border) (λ c κs. search border) (λ c. search border) (λ c κs. search border) (λ c κs. search border) (λ c. search border))

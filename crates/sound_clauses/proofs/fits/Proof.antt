@@ -5,11 +5,9 @@ use Rattle.kernel.proofs.Decided.{at-most}
 use Rattle.sound_clauses.proofs.fits.Statement.{statement}
 use Rattle.sound_clauses.proofs.fits.Tie as tie
 
-nrt : tie.Need-returns
-nrt c = rw (c .before .class .given .1) (at-most _ _)
-
-hard : tie.Need-returns-2
-hard c = rw (c .before .before .class2 .given .1) (rw (c .fitting .ensures) Iff·rfl)
-
 pub fits-spec : {M : Type 1} → statement M
-fits-spec = tie.close (tie.spec (λ c. search needs) (λ c. search needs) (λ c. search needs) (λ c. search needs) (λ c κs. search needs) nrt hard)
+fits-spec =
+    tie.close
+    (tie.spec (λ c. search needs) (λ c. search needs) (λ c. search needs) (λ c. search needs) (λ c κs. search needs)
+    (λ c. rw (c .before .class .given .1) (at-most _ _))
+    (λ c. rw (c .before .before .class2 .given .1) (rw (c .fitting .ensures) Iff·rfl)))

@@ -6,11 +6,9 @@ use Rattle.kernel.proofs.Decided.{yes, at-most, same, means}
 use Rattle.sound_clauses.proofs.in_time.Statement.{statement}
 use Rattle.sound_clauses.proofs.in_time.Tie as tie
 
-hard : tie.Need-returns-2
-hard c = means (at-most _ _) (λ l z h. l) (λ g. g (c .before .before .if1 .left) (same (c .before .is-hard .ensures) .0 (c .if2 .taken)))
-
-nrt : tie.Need-returns-3
-nrt c = yes (λ z h. absurd (false≢true (sym (c .if2 .left) ∙ c .before .is-hard .ensures ∙ h)))
-
 pub in-time-spec : {M : Type 1} → statement M
-in-time-spec = tie.close (tie.spec (λ c. search needs) (λ c κs. search needs) hard nrt)
+in-time-spec =
+    tie.close
+    (tie.spec (λ c. search needs) (λ c κs. search needs)
+    (λ c. means (at-most _ _) (search) (λ g. g (c .before .before .if1 .left) (same (c .before .is-hard .ensures) .0 (c .if2 .taken))))
+    (λ c. yes (λ z h. absurd (false≢true (sym (c .if2 .left) ∙ c .before .is-hard .ensures ∙ h)))))

@@ -5,11 +5,7 @@ use Rattle.kernel.proofs.Decided.{no}
 use Rattle.sound_clauses.proofs.is_nrt.Statement.{statement}
 use Rattle.sound_clauses.proofs.is_nrt.Tie as tie
 
-nrt : tie.Need-returns
-nrt c = rw (c .before .class .given .1) (nrt-equal _ _)
-
-hard : tie.Need-returns-2
-hard c = rw (c .enum-told .given .1) (no (hard-not-nrt _ _ _))
-
 pub is-nrt-spec : {M : Type 1} → statement M
-is-nrt-spec = tie.close (tie.spec (λ c. search needs) (λ c. search needs) nrt hard)
+is-nrt-spec =
+    tie.close
+    (tie.spec (λ c. search needs) (λ c. search needs) (λ c. rw (c .before .class .given .1) (nrt-equal _ _)) (λ c. rw (c .enum-told .given .1) (no (hard-not-nrt _ _ _))))

@@ -5,11 +5,7 @@ use Rattle.sound_sessions.proofs.Buffers.{nothing-latest}
 use Rattle.sound_sessions.proofs.put_first.Statement.{statement}
 use Rattle.sound_sessions.proofs.put_first.Tie as tie
 
-nothing : tie.Need-returns
-nothing c = no (λ f. f (c .enum-told .given .1))
-
-buffer : tie.Need-returns-2
-buffer c = yes (λ p. nothing-latest _ p (c .enum-told2 .given .1))
-
 pub put-first-spec : {M : Type 1} → statement M
-put-first-spec = tie.close (tie.spec (λ c. search needs) (λ c. search needs) nothing buffer)
+put-first-spec =
+    tie.close
+    (tie.spec (λ c. search needs) (λ c. search needs) (λ c. no (λ f. f (c .enum-told .given .1))) (λ c. yes (λ p. nothing-latest _ p (c .enum-told2 .given .1))))

@@ -1,39 +1,15 @@
 -- Every task is filed, one a turn. Assumes nothing.
-use Prim.Native.Nat.{ℕ, _-_, _≤_, _<_}
-use native.Mathlib.Omega.{arith}
-use borrow.Author.Count.{below-none, below-more}
-use borrow.Author.Needs.{needs}
+use Prim.Native.Nat.{_-_}
 use Rattle.kernel.specs.Sizes.{task-count}
-use Rattle.kernel.proofs.Decided.{refused, passed, one-fails, all-hold}
+use Rattle.kernel.proofs.Decided.{Passed, loop}
 use Rattle.soundness.specs.Tests.{FiledTask}
 use Rattle.soundness.proofs.tasks_filed.Statement.{statement}
 use Rattle.soundness.proofs.tasks_filed.Tie as tie
-
-abbrev Inv-loop : tie.InvT-loop
-Inv-loop s x₀ x = (x ≤ task-count) × ((y : ℕ) → y < x → FiledTask s y)
-
-abbrev μ-loop : tie.MeasureT-loop
-μ-loop s x₀ x = task-count - x
-
-bad : tie.Need-returns Inv-loop μ-loop
-bad c = one-fails (c .before .before .loop-test .taken) (refused (c .before .task-filed .ensures) (c .if1 .taken))
-
-again : tie.Need-loop-again Inv-loop μ-loop
-again c = (omega arith, below-more _ _ (c .before .before .before .loop .inv .1) (passed (c .before .task-filed .ensures) (c .if1 .left)))
-
-all : tie.Need-returns-2 Inv-loop μ-loop
-all c = all-hold (c .loop-test .left) (c .before .loop .inv .1)
 
 pub tasks-filed-spec : {M : Type 1} → statement M
 tasks-filed-spec =
     tie.close
     (tie.spec
-    Inv-loop
-    μ-loop
-    (λ c. (omega arith, below-none _))
-    (λ c κs. search needs)
-    bad
-    (λ c. omega arith)
-    (λ c. omega arith)
-    again
-    all)
+    (λ w x₀ x. Passed (FiledTask w) task-count x)
+    (λ w x₀ x. task-count - x)
+    (λ c. search loop) (λ c κs. search loop) (λ c. search loop) (λ c. search loop) (λ c. search loop) (λ c. search loop) (λ c. search loop))

@@ -13,9 +13,7 @@ table c =
     let status = c .before in
     let six = status .before in
     let unused = six .before in
-    let every = unused .before in
-    let s = every .before .args .s in
-    λ m. record { tested = c .row2 .ensures _ s _ (six .row .ensures _ s _ (every .every-call .ensures) (λ p. unused .no-task-in-use .ensures)) (λ p. ap (λ (n : ℕ). not (eqb n SLEEP)) (status .status-of .ensures)) }
+    λ m. record { tested = c .row2 .ensures _ _ (six .row .ensures _ _ (unused .before .every-call .ensures) (λ p. unused .no-task-in-use .ensures)) (λ p. ap (λ (n : ℕ). not (eqb n SLEEP)) (status .status-of .ensures)) }
 
 pub may-activate-spec : {M : Type 1} → statement M
 may-activate-spec = tie.close (tie.spec (λ c κs. search needs) (λ c κs. search needs) (λ c κs. search needs) (λ c κs. search needs) (λ c κs. search needs) table)

@@ -1,25 +1,9 @@
--- Sleep answers as the table and the model say. Assumes nothing.
-use mathlib.Core.Path.{refl}
-use borrow.Author.Needs.{needs}
+-- The test, and then sleep. Assumes nothing.
 use Rattle.kernel.specs.Calls.{effect}
-use Rattle.refusals.proofs.Answers.{legal, refused, took-effect}
+use Rattle.refusals.proofs.Answers.{border}
 use Rattle.tasks.proofs.sleep.Statement.{statement}
 use Rattle.tasks.proofs.sleep.Tie as tie
 
-may : tie.Need-slept-requires
-may c κs = legal (λ m. record { tested = c .before .before .not-by-main .ensures }) (c .enum-told2 .given .1)
-
-refuses : tie.Need-returns
-unfolding effect
-refuses c = let v = c .before in rw (c .refuse .ensures) (refused (λ m. record { tested = v .before .before .not-by-main .ensures }) (v .enum-told .given .1) (λ m. refl))
-
-takes-effect : tie.Need-returns-2
-unfolding effect
-takes-effect c =
-    let e = c .before .before in
-    rw (c .done .ensures) (took-effect (λ m. record { tested = e .before .before .not-by-main .ensures }) (e .enum-told2 .given .1) (λ m. refl) (c .before .slept .ensures))
-
 pub sleep-spec : {M : Type 1} → statement M
-sleep-spec =
-    tie.close
-    (tie.spec (λ c κs. search needs) (λ c. search needs) (λ c κs. search needs) (λ c. search needs) may (λ c κs. search needs) refuses takes-effect)
+unfolding effect
+sleep-spec = tie.close (tie.spec (λ c κs. search border) (λ c κs. search border) (λ c. search border) (λ c κs. search border) (λ c κs. search border) (λ c. search border))

@@ -1,27 +1,13 @@
 -- The ticks are counted down. Assumes nothing.
-use native.Mathlib.Omega.{arith}
 use borrow.Author.Needs.{needs}
 use Rattle.test_lines.proofs.ticked.Statement.{statement}
 use Rattle.test_lines.proofs.ticked.Tie as tie
-
-abbrev Inv-loop : tie.InvT-loop
-Inv-loop n t₀ left₀ t6 t left = Unit {0}
-
-abbrev μ-loop : tie.MeasureT-loop
-μ-loop n t₀ left₀ t6 t left = left
 
 pub ticked-spec : {M : Type 1} → statement M
 ticked-spec =
     tie.close
     (tie.spec
-    Inv-loop
-    μ-loop
-    (λ c. tt)
-    (λ c κs. search needs)
-    (λ c. omega arith)
-    (λ c. omega arith)
-    (λ c. tt)
-    (λ c. search needs)
-    (λ c κs. search needs)
-    (λ c κs. search needs)
-    (λ c. search needs))
+    (λ n t₀ left₀ t6 t left. Unit {0})
+    (λ n t₀ left₀ t6 t left. left)
+    (λ c. search needs) (λ c κs. search needs) (λ c. search needs) (λ c. search needs) (λ c. search needs) (λ c. search needs) (λ c κs. search needs)
+    (λ c κs. search needs) (λ c. search needs))

@@ -1,25 +1,9 @@
--- A tick answers as the table and the model say. Assumes nothing.
-use mathlib.Core.Path.{refl}
-use borrow.Author.Needs.{needs}
+-- The test, and then tick. Assumes nothing.
 use Rattle.kernel.specs.Calls.{effect}
-use Rattle.refusals.proofs.Answers.{legal, refused, took-effect}
+use Rattle.refusals.proofs.Answers.{border}
 use Rattle.ticks.proofs.tick.Statement.{statement}
 use Rattle.ticks.proofs.tick.Tie as tie
 
-may : tie.Need-ticked-requires
-may c κs = legal (λ m. record { tested = c .before .before .every-call .ensures }) (c .enum-told2 .given .1)
-
-refuses : tie.Need-returns
-unfolding effect
-refuses c = let v = c .before in rw (c .refuse .ensures) (refused (λ m. record { tested = v .before .before .every-call .ensures }) (v .enum-told .given .1) (λ m. refl))
-
-takes-effect : tie.Need-returns-2
-unfolding effect
-takes-effect c =
-    let e = c .before .before in
-    rw (c .done .ensures) (took-effect (λ m. record { tested = e .before .before .every-call .ensures }) (e .enum-told2 .given .1) (λ m. refl) (c .before .ticked .ensures))
-
 pub tick-spec : {M : Type 1} → statement M
-tick-spec =
-    tie.close
-    (tie.spec (λ c κs. search needs) (λ c. search needs) (λ c κs. search needs) (λ c. search needs) may (λ c κs. search needs) refuses takes-effect)
+unfolding effect
+tick-spec = tie.close (tie.spec (λ c κs. search border) (λ c κs. search border) (λ c. search border) (λ c κs. search border) (λ c κs. search border) (λ c. search border))

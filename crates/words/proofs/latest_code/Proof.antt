@@ -4,11 +4,5 @@ use borrow.Author.Needs.{needs}
 use Rattle.words.proofs.latest_code.Statement.{statement}
 use Rattle.words.proofs.latest_code.Tie as tie
 
-fits : tie.Need-add-result
-fits c = let h = rw (c .before .latest .given .1) at (c .before .before .before .pre) in omega (arith, h)
-
-buffer : tie.Need-returns-2
-buffer c = rw (c .before .latest .given .1)
-
 pub latest-code-spec : {M : Type 1} → statement M
-latest-code-spec = tie.close (tie.spec (λ c. search needs) (λ c. search needs) fits (λ c. search needs) buffer)
+latest-code-spec = tie.close (tie.spec (λ c. search needs) (λ c. search needs) (λ c. omega (arith, rw (c .before .latest .given .1) at (c .before .before .before .pre))) (λ c. search needs) (λ c. cc))

@@ -3,11 +3,5 @@ use borrow.Author.Needs.{needs}
 use Rattle.words.proofs.set_semaphore.Statement.{statement}
 use Rattle.words.proofs.set_semaphore.Tie as tie
 
-used : tie.Need-returns
-used c = rw (c .before .if1 .taken)
-
-unused : tie.Need-returns-2
-unused c = rw (c .if1 .left)
-
 pub set-semaphore-spec : {M : Type 1} → statement M
-set-semaphore-spec = tie.close (tie.spec (λ c. search needs) (λ c. search needs) (λ c. search needs) (λ c. search needs) used (λ c. search needs) (λ c. search needs) (λ c. search needs) unused)
+set-semaphore-spec = tie.close (tie.spec (λ c. search needs) (λ c. search needs) (λ c. search needs) (λ c. search needs) (λ c. rw (c .before .if1 .taken)) (λ c. search needs) (λ c. search needs) (λ c. search needs) (λ c. rw (c .if1 .left)))

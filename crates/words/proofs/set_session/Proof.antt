@@ -3,8 +3,5 @@ use borrow.Author.Needs.{needs}
 use Rattle.words.proofs.set_session.Statement.{statement}
 use Rattle.words.proofs.set_session.Tie as tie
 
-written : tie.Need-returns
-written c = rw (c .session-code .ensures)
-
 pub set-session-spec : {M : Type 1} → statement M
-set-session-spec = tie.close (tie.spec (λ c κs. search needs) (λ c. search needs) (λ c. search needs) (λ c. search needs) written)
+set-session-spec = tie.close (tie.spec (λ c κs. search needs) (λ c. search needs) (λ c. search needs) (λ c. search needs) (λ c. cc))

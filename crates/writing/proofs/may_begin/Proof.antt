@@ -5,7 +5,7 @@ use borrow.Author.Needs.{needs}
 use Rattle.kernel.specs.Kernel.{channel}
 use Rattle.kernel.specs.Channels.{lowest-buffer}
 use Rattle.kernel.specs.Seen.{seen}
-use Rattle.refusals.proofs.Says.{of-length}
+use Rattle.refusals.proofs.Answers.{judged}
 use Rattle.channels.proofs.Passed.{is-channel}
 use Rattle.writing.proofs.may_begin.Statement.{statement}
 use Rattle.writing.proofs.may_begin.Tie as tie
@@ -15,16 +15,12 @@ table c =
     let h = c .before .before in
     let lowest = h .before in
     let closed = lowest .before in
-    let k = closed .before in
-    let n = k .args .memory in
-    λ m e.
-    record {
-      tested =
-          of-length
-          (c .row .ensures _ (k .args .s) (eqb (lowest-buffer (seen (k .args .s)) (k .args .c)) (channel (seen (k .args .s)) (k .args .c) .buffers)) (closed .on-channel .ensures)
-          (λ p. rw (h .channel-of .ensures, lowest .lowest-buffer .ensures (is-channel n (k .args .c) p)) refl))
-          m e;
-    }
+    let k = closed .before .args in
+    let w = k .w .now in
+    judged
+    (c .row .ensures _ (eqb (lowest-buffer (seen w) (k .c)) (channel (seen w) (k .c) .buffers)) (closed .on-channel .ensures)
+    (λ p. rw (h .channel-of .ensures, lowest .lowest-buffer .ensures (is-channel w (k .memory) (k .c) p)) refl))
+    (λ m. refl)
 
 pub may-begin-spec : {M : Type 1} → statement M
 may-begin-spec = tie.close (tie.spec (λ c κs. search needs) (λ c κs. search needs) (λ c κs. search needs) (λ c κs. search needs) table)

@@ -1,13 +1,26 @@
--- `State::fresh` gives the fresh state, field by field. Assumes nothing.
+-- `State::fresh` gives the fresh state: zeros, then no heads, no links, and the main task. Assumes nothing.
 use mathlib.Core.Path.{refl}
 use borrow.Author.Needs.{needs}
-use Rattle.kernel.specs.Fresh.{fresh-state}
+use Rattle.kernel.specs.Fresh.{with-main, fresh-words}
 use Rattle.kernel.proofs.State.fresh.Statement.{statement}
 use Rattle.kernel.proofs.State.fresh.Tie as tie
 
 returns : tie.Need-returns
-unfolding fresh-state
-returns c = refl
+unfolding fresh-words with-main
+returns c = rw (c .no-links .ensures, c .before .before .no-heads .ensures) refl
 
 pub fresh-spec : {M : Type 1} → statement M
-fresh-spec = tie.close (tie.spec (λ c. search needs) (λ c. search needs) returns)
+fresh-spec = tie.close (tie.spec
+    (λ c κs. search needs)
+    (λ c κs. search needs)
+    (λ c. search needs)
+    (λ c. search needs)
+    (λ c. search needs)
+    (λ c. search needs)
+    (λ c. search needs)
+    (λ c. search needs)
+    (λ c. search needs)
+    (λ c. search needs)
+    (λ c. search needs)
+    (λ c. search needs)
+    returns)

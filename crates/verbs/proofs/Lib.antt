@@ -1,0 +1,2 @@
+-- What verbs show.
+pub mod Refused

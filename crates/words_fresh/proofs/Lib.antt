@@ -1,2 +1,0 @@
--- The fresh kernel is seen in its words.
-pub mod FreshWords

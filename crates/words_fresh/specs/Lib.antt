@@ -1,2 +1,0 @@
--- The words of the fresh kernel.
-pub mod Fresh
