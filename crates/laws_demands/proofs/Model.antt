@@ -14,7 +14,7 @@ use Rattle.kernel.specs.Seen.{seen}
 use Rattle.kernel.specs.Sound.{Sound}
 use Rattle.kernel.specs.Promise.{handed-back, Loan}
 use Rattle.kernel.specs.Promise as Promise
-use Rattle.laws_words.proofs.Fresh.{fresh-shown, fresh-sound}
+use Rattle.laws_words.proofs.Fresh.{fresh-seen, fresh-sound}
 use Rattle.laws_promises.proofs.Answers.{call-sound}
 use Rattle.laws_promises.proofs.SeenAs.{SeenAs, as-step}
 use Rattle.laws_runs.specs.Trace.{Event, own-events, AsidesRefused, asks, instead}
@@ -55,7 +55,7 @@ next {m} {n} {left} {s} {h} {c} {r} {shown} a p =
 pub as-model : {m n : List ℕ} {s : State} {h : List Event} → Run m s n h → AsModel m s n (own-events h)
 unfolding after trace
 as-model {m} (start {s} e) =
-    record { sound = subst (λ (t : State). Sound (t .words)) (sym e) fresh-sound; kernel-is = ap (λ (t : State). seen (t .words)) e ∙ fresh-shown .is; memory-is = refl; trace-is = refl }
+    record { sound = subst (λ (t : State). Sound (t .words)) (sym e) fresh-sound; kernel-is = ap (λ (t : State). seen (t .words)) e ∙ fresh-seen; memory-is = refl; trace-is = refl }
 as-model (call r p) = next (as-model r) (promised p)
 as-model (aside r p e) = as-model r
 

@@ -4,7 +4,7 @@ use mathlib.Core.List.{List}
 use Prim.Native.Nat.{ℕ}
 use Rattle.kernel.specs.Good.{Good}
 use Rattle.kernel.specs.Fresh.{fresh, headless, unlinked, with-main, fresh-words}
-use Rattle.kernel.specs.Seen.{tabulate}
+use Rattle.kernel.specs.Seen.{tabulate, seen}
 use Rattle.kernel.specs.Sound.{Sound}
 use Rattle.kernel.specs.Shows.{Shows}
 use Rattle.kernel.proofs.Fresh.{fresh-good}
@@ -15,10 +15,14 @@ are : fresh-words ≡ words-of fresh
 unfolding fresh-words with-main headless unlinked fresh words-of code tabulate
 are = refl
 
--- **fresh-shown**: the fresh kernel is seen in the fresh words.
+-- **fresh-shown**: the fresh words show the fresh kernel.
 pub fresh-shown : Shows fresh-words fresh
 fresh-shown = subst (λ (w : List ℕ). Shows w fresh) (sym are) (shown fresh fresh-good)
 
+-- **fresh-seen**: what is seen in them is the fresh kernel.
+pub fresh-seen : seen fresh-words ≡ fresh
+fresh-seen = fresh-shown .is
+
 -- **fresh-sound**: they are sound.
 pub fresh-sound : Sound fresh-words
-fresh-sound = record { formed = fresh-shown .kept .formed; filed = fresh-shown .kept .filed; good = subst Good (sym (fresh-shown .is)) fresh-good }
+fresh-sound = record { formed = fresh-shown .kept .formed; filed = fresh-shown .kept .filed; good = subst Good (sym fresh-seen) fresh-good }

@@ -7,7 +7,7 @@ use lib.Dec.{eqb}
 use Rattle.kernel.specs.Kernel.{Kernel}
 use Rattle.kernel.specs.Seen.{seen}
 use Rattle.kernel.specs.Sound.{Sound}
-use Rattle.laws_words.proofs.Fresh.{fresh-shown, fresh-sound}
+use Rattle.laws_words.proofs.Fresh.{fresh-seen, fresh-sound}
 use Rattle.script.specs.Output.{turn, prints, begin, lines, title, output}
 use Rattle.script.specs.Blocks.{Reader, Read, newline, longer, byte, read, rest, at-start, Reached, Ends, Served, start, more}
 use Rattle.script.proofs.Begun.{none-begun}
@@ -65,7 +65,7 @@ as-lines (b ∷ bs) r = go (eqb b 10) (as-lines bs)
 -- The functions come to what the model reads.
 reached : {input w buffer : List ℕ} {n : ℕ} {text : List ℕ} → Served input w buffer n text → Reached (read input at-start) w buffer n text
 unfolding read
-reached (start {w} {buffer} e) = record { sound = subst Sound (sym e) fresh-sound; kernel = ap seen e ∙ fresh-shown .is; line = none-begun buffer; prints = refl }
+reached (start {w} {buffer} e) = record { sound = subst Sound (sym e) fresh-sound; kernel = ap seen e ∙ fresh-seen; line = none-begun buffer; prints = refl }
 reached (more {input} bytes text′ so-far goes-on) = next-read input bytes at-start (reached so-far) goes-on
 
 -- **in-blocks**: in whatever blocks an input comes, in one piece or byte by byte, what is printed, the end of the input included, is the script's output.

@@ -1,6 +1,5 @@
 -- Running task and clock are those of the words. Assumes nothing.
 use borrow.Author.Needs.{needs}
-use Rattle.text.specs.Text.{printed}
 use Rattle.script.proofs.tell.Statement.{statement}
 use Rattle.script.proofs.tell.Tie as tie
 
