@@ -43,7 +43,7 @@ served (one-more {answers} {next = next} {v = v} {line′ = line′} {text} {blo
     subst (λ (x : List ℕ). Served x v line′ (next .begun) (text ++ e .text)) (sym (input-more answers _))
     (more (take (e .read) (came (e .got) block)) (e .text) (served so-far) (e .reads))
 
--- **all-printed**: what a script hands to C, the title first and the last line last, is the output of all bytes that were read. So it is what is printed, if C takes all that it is handed.
+-- **all-printed**: what a script is to print, the title first and the last line last, is the output of all bytes that were read. So it is what is printed, if C is handed these texts and takes all of them.
 pub all-printed : {r : Ending} (h : Ran r) → title ++ (h .text ++ take (r .printed) (r .paper)) ≡ output (input (h .answers))
 all-printed h = in-blocks (served (h .exchanges)) (h .last)
 

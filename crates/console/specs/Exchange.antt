@@ -29,7 +29,7 @@ came got block = take (count got block) block
 
 -- ---- what is made of C's answers
 
--- The bytes were read from where the script stood on, and C was handed what they print: all of them, where it took all that it was handed.
+-- The bytes were read from where the script stood on: all of them, where C took all that it was handed. The text is what they print, and C was handed as many bytes. That those were the text's is read in `respond`: no contract says what C is handed.
 pub record Responds (bytes w line : List ℕ) (begun : ℕ) (v line′ : List ℕ) (r : Response) : Type 0 where
   pub text : List ℕ
   pub within : r .read ≤ length bytes
@@ -54,7 +54,7 @@ pub record Answers : Type 0 where
 abbrev pub taken : Answers → List ℕ
 taken a = take (a .read) (came (a .got) (a .block))
 
--- One exchange, from where the script stood to where it stands next, with these answers: the text is what C was handed, which is what the bytes that were read print.
+-- One exchange, from where the script stood to where it stands next, with these answers: the text is what the bytes that were read print, and C was handed as many bytes.
 pub record Exchange (at : Standing) (w line : List ℕ) (next : Standing) (v line′ block : List ℕ) : Type 0 where
   pub got : ℤ
   pub whole : Bool
@@ -66,7 +66,7 @@ pub record Exchange (at : Standing) (w line : List ℕ) (next : Standing) (v lin
   pub all : whole ≡ true → read ≡ count got block
   pub further : next .further ≡ ltb 0 (count got block) && whole
 
--- Exchange behind exchange, the oldest first, from the fresh words, no line and the title on. The first follows if C took all of the title, each other if the one before it says so, and from where that one left off. The text is all that C was handed in them.
+-- Exchange behind exchange, the oldest first, from the fresh words, no line and the title on. The first follows if C took all of the title, each other if the one before it says so, and from where that one left off. The text is all that was to be printed in them.
 pub data Exchanges (titled : Bool) : List Answers → Standing → (w line text : List ℕ) → Type 0 where
   none : {w line : List ℕ} {n : ℕ} → w ≡ fresh-words → n ≡ length title → Exchanges titled [] (record { begun = 0; printed = n; further = titled }) w line []
   one-more : {answers : List Answers} {at next : Standing} {w v line line′ text block : List ℕ} → Exchanges titled answers at w line text → at .further ≡ true
@@ -77,7 +77,7 @@ pub data Exchanges (titled : Bool) : List Answers → Standing → (w line text 
 abbrev pub most-exchanges : ℕ
 most-exchanges = 18446744073709551615
 
--- A whole script: C's answers to the title and in each exchange, the words then, and all that was handed to C. It ended where no exchange follows, and printed last what is due at the end of the input.
+-- A whole script: C's answers to the title and in each exchange, the words then, and all that was to be printed. It ended where no exchange follows, and printed last what is due at the end of the input.
 pub record Ran (r : Ending) : Type 0 where
   pub titled : Bool
   pub answers : List Answers
