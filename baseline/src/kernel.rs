@@ -51,6 +51,7 @@ pub enum Refusal {
     NoRoom = -10,
     NothingPut = -13,
     WrongSession = -14,
+    TooSoon = -15,
 }
 
 /// 0, the new number or what a question asks; or the refusal. A refused call has changed nothing.

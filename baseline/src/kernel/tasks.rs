@@ -62,6 +62,9 @@ impl Kernel {
             return Err(Refusal::WrongStatus);
         }
         if let Class::Hard { period, .. } = self.tasks[task].class {
+            if self.clock < self.tasks[task].deadline {
+                return Err(Refusal::TooSoon);
+            }
             self.tasks[task].deadline = self.clock + period;
         }
         self.join(task, Status::Ready);

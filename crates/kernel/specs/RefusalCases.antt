@@ -1,4 +1,4 @@
--- Document 01's table of refusal numbers, computed row by row: each call that a row can refuse is made where that row is the first that
+-- The table of refusal numbers, computed row by row: each call that a row can refuse is made where that row is the first that
 -- applies. Assumes nothing.
 use mathlib.Core.Path.{_≡_, refl}
 use mathlib.Core.Bool.{Bool, true, false}
@@ -10,6 +10,7 @@ use Rattle.kernel.specs.declared.Stop.the-variants.{Going, Overrun, Life
 use Rattle.kernel.specs.Sizes.{fitting}
 use Rattle.kernel.specs.Kernel.{share, lowest, with-stop}
 use Rattle.kernel.specs.Moves.{move, dispatch, preempt, schedule}
+use Rattle.kernel.specs.Tick as Tick
 use Rattle.kernel.specs.Tasks as Tasks
 use Rattle.kernel.specs.Semaphores as Semaphores
 use Rattle.kernel.specs.Channels as Channels
@@ -149,6 +150,20 @@ row-9 =
     ++ map verb (signal 1 ∷ []) all-refused- 9
     ++ (verb (signal 0) gives 0 runs 1 ∷ verb (delete 0) gives 0 runs 1 ∷ []))
 
+-- -15: a HARD task is activated while the clock is below its deadline. Task 1 is activated at 0, and so has deadline 4, and sleeps at 1: it is refused
+-- at 1 and at 3 and taken at 4. Killed, it is a zombie; the task that is created then was never activated, and is taken at once. An NRT task is not
+-- concerned.
+abbrev row-15 : Case
+row-15 =
+    row 15
+    ((verb (create-hard 4 1) gives 1 runs 0 ∷ verb (activate 1) gives 0 runs 1 ∷ verb tick gives 0 runs 1 ∷ verb sleep gives 0 runs 0 ∷ [])
+    ++ map verb (activate 1 ∷ []) all-refused- 15
+    ++ (verb tick gives 0 runs 0 ∷ verb tick gives 0 runs 0 ∷ [])
+    ++ map verb (activate 1 ∷ []) all-refused- 15
+    ++ (verb tick gives 0 runs 0 ∷ verb (activate 1) gives 0 runs 1 ∷ verb (kill 1) gives 0 runs 0 ∷ [])
+    ++ (verb (create-hard 4 1) gives 2 runs 0 ∷ verb (activate 2) gives 0 runs 2 ∷ verb sleep gives 0 runs 0 ∷ [])
+    ++ (verb (create-nrt 1) gives 3 runs 0 ∷ verb (activate 3) gives 0 runs 3 ∷ verb sleep gives 0 runs 0 ∷ verb (activate 3) gives 0 runs 3 ∷ []))
+
 -- -4: no FREE task. It answers before -3, and -7 before it.
 abbrev row-4 : Case
 row-4 =
@@ -203,6 +218,7 @@ cases =
     ∷ row-14
     ∷ row-7
     ∷ row-9
+    ∷ row-15
     ∷ row-4
     ∷ row-5
     ∷ row-3
@@ -213,5 +229,5 @@ cases =
 
 -- Every case holds.
 pub refusal-cases : failed cases ≡ []
-unfolding cases failed fresh step effect fitting share lowest move dispatch preempt schedule Tasks.lowest-free Tasks.create Tasks.activate Tasks.sleep Tasks.cycle Tasks.close-sessions Tasks.finish Tasks.end Tasks.kill Semaphores.lowest-semaphore Semaphores.new-semaphore Semaphores.delete Semaphores.wait Semaphores.signal Channels.some-session Channels.lowest-buffer Channels.lowest-channel Channels.open-channel Channels.begin-write Channels.cleared Channels.written Channels.put Channels.begin-reading Channels.close
+unfolding cases failed fresh step effect fitting share lowest move dispatch preempt schedule Tick.free Tick.wake Tick.free-zombies Tick.wake-idle Tick.tick Tasks.lowest-free Tasks.create Tasks.activate Tasks.sleep Tasks.cycle Tasks.close-sessions Tasks.finish Tasks.end Tasks.kill Semaphores.lowest-semaphore Semaphores.new-semaphore Semaphores.delete Semaphores.wait Semaphores.signal Channels.some-session Channels.lowest-buffer Channels.lowest-channel Channels.open-channel Channels.begin-write Channels.cleared Channels.written Channels.put Channels.begin-reading Channels.close
 refusal-cases = refl

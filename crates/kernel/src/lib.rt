@@ -212,6 +212,8 @@ impl State {
     pub const NOTHING_PUT: i64 = -13;
 
     pub const WRONG_SESSION: i64 = -14;
+
+    pub const TOO_SOON: i64 = -15;
 }
 
 fn no_heads(w: &mut [u32; State::WORDS])

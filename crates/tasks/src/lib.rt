@@ -8,7 +8,7 @@ ghost use Rattle.kernel.specs.Kernel.{task};
 ghost use Rattle.kernel.specs.Tasks as Tasks;
 ghost use Rattle.kernel.specs.Calls as Calls;
 ghost use Rattle.kernel.specs.Calls.{verb};
-ghost use Rattle.kernel.specs.Refusals.{main-runs, hard-runs};
+ghost use Rattle.kernel.specs.Refusals.{main-runs, hard-runs, too-soon};
 ghost use Rattle.kernel.specs.Seen.{seen};
 ghost use Rattle.kernel.specs.Sound.{Sound};
 ghost use Rattle.kernel.specs.Shows.{Shows};
@@ -22,16 +22,37 @@ use kernel::Status;
 use kernel::TaskNo;
 use refusals::Verdict;
 
+// Whether the clock is before the deadline of task i.
+fn early(w: &[u32; State::WORDS], i: usize) -> bool
+    requires { ⌜ i < task-count ⌝ }
+    ensures { λ r. ⌜ r ≡ ltb (seen (now (w .entry)) .clock) (task (seen (now (w .entry))) i .deadline) ⌝ }
+{
+    let deadline = words::deadline(w, i);
+    words::clock(w) < deadline
+}
+
 // ---- activate
+
+// Whether task n is HARD, and the clock before its deadline.
+fn too_soon(w: &[u32; State::WORDS], n: usize) -> bool
+    ensures { λ r. ⌜ r ≡ too-soon (seen (now (w .entry))) n ⌝ }
+{
+    if refusals::is_hard(w, n) {
+        return early(w, n);
+    }
+    false
+}
 
 pub fn may_activate(w: &[u32; State::WORDS], n: usize) -> Verdict
     ensures { λ r. ⌜ Refusal (verb (Calls.activate n)) (now (w .entry)) r ⌝ }
 {
     let every = refusals::every_call(w);
     let unused = refusals::no_task_in_use(w, n);
-    let numbered = refusals::row(every, State::NO_SUCH_NUMBER, unused);
     let status = refusals::status_of(w, n);
-    refusals::row(numbered, State::WRONG_STATUS, status != Status::SLEEP)
+    let soon = too_soon(w, n);
+    let numbered = refusals::row(every, State::NO_SUCH_NUMBER, unused);
+    let asleep = refusals::row(numbered, State::WRONG_STATUS, status != Status::SLEEP);
+    refusals::row(asleep, State::TOO_SOON, soon)
 }
 
 // A HARD deadline becomes clock + period.
@@ -79,7 +100,7 @@ pub fn activate_known(w: &mut [u32; State::WORDS], n: usize) -> Answer
     }
 }
 
-// Activate a SLEEP task: it joins the ready queue; then schedule.
+// Activate a SLEEP task, a HARD one not before its deadline: it joins the ready queue; then schedule.
 pub fn activate(s: State, task: TaskNo) -> Reply
     ensures { λ r. ⌜ Unlent (verb (Calls.activate (task .0))) s r ⌝ }
 {
@@ -146,15 +167,6 @@ pub fn may_cycle(w: &[u32; State::WORDS]) -> Verdict
     let every = refusals::every_call(w);
     let barred = never_cycles(w);
     refusals::row(every, State::NOT_ALLOWED, barred)
-}
-
-// Whether the clock is before the deadline of task i.
-fn early(w: &[u32; State::WORDS], i: usize) -> bool
-    requires { ⌜ i < task-count ⌝ }
-    ensures { λ r. ⌜ r ≡ ltb (seen (now (w .entry)) .clock) (task (seen (now (w .entry))) i .deadline) ⌝ }
-{
-    let deadline = words::deadline(w, i);
-    words::clock(w) < deadline
 }
 
 pub fn cycled(w: &mut [u32; State::WORDS])

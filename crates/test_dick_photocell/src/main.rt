@@ -1,0 +1,5 @@
+// The script program on examples/photocell.txt, of which `stdin` is a copy: what examples/README.md says is printed.
+fn main() {
+    let mut block = [0u8; console::LONGEST_BLOCK];
+    console::run(&mut block);
+}
