@@ -45,6 +45,15 @@ pub record Acts (P : Kernel → Type 0) (f : Kernel → ℕ → Kernel) (q : ℕ
   pub rising : {k : Kernel} → P k → Rising (deadline-of k) (queue k q)
   pub acts : {k : Kernel} {x : ℕ} {xs : List ℕ} → P k → queue k q ≡ x ∷ xs → task k x .deadline ≤ k .clock → P (f k x) × (queue (f k x) q ≡ xs)
 
+-- A sweep also keeps what each of its steps keeps.
+pub also : {P Q : Kernel → Type 0} {f : Kernel → ℕ → Kernel} {q : ℕ} → Acts P f q
+    → ((k : Kernel) (x : ℕ) (xs : List ℕ) → P k → queue k q ≡ x ∷ xs → task k x .deadline ≤ k .clock → Q k → Q (f k x)) → Acts (λ k. P k × Q k) f q
+also h keeps =
+    record {
+      rising = λ p. h .rising (p .0);
+      acts = λ {k} {x} {xs} p e due. let n = h .acts (p .0) e due in ((n .0, keeps k x xs (p .0) e due (p .1)), n .1);
+    }
+
 module _ {P : Kernel → Type 0} {f : Kernel → ℕ → Kernel} {q : ℕ} (h : Acts P f q) where
   pub one-swept : {k : Kernel} {x : ℕ} {xs : List ℕ} → P k → queue k q ≡ x ∷ xs → task k x .deadline ≤ k .clock → swept f q k ≡ swept f q (f k x)
   one-swept {k} {x} {xs} p e d =

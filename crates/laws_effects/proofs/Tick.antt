@@ -13,6 +13,7 @@ use Rattle.kernel.specs.Moves.{schedule}
 use Rattle.kernel.specs.Tick.{wake, any-due, free-zombies, wake-idle, overrun, tick}
 use Rattle.kernel.specs.Good.{Good}
 use Rattle.kernel.proofs.Deadlines.{before-lifetime}
+use Rattle.kernel.proofs.Decided.{either}
 use Rattle.laws_effects.specs.UnderWay.{Freeing}
 use Rattle.laws_effects.proofs.Steady.{earliest, good}
 use Rattle.laws_effects.proofs.Processor.{scheduled}
@@ -31,20 +32,24 @@ wake-idle-good {k} p = go (any-due k (queue k idle-queue)) refl
         let none = none-any k (queue k idle-queue) e in
         subst Good (sym (sweep-none k wake (queue k idle-queue) none)) (good (goes-on (p .0) none) (p .0 .running) (p .1))
 
--- **ticked**: a tick keeps the kernel good, whether it stops it or not.
 module _ {k : Kernel} (g : Good k) (going : stop-number (k .stop) ≡ 0) where
   abbrev j : Kernel
   j = with-clock k (k .clock + 1)
 
-  goes : (b : Bool) → overrun j ≡ b → k .clock + 1 < lifetime → Good (cond b (with-stop j Overrun) (wake-idle (free-zombies j)))
-  unfolding free-zombies
-  goes true e l = stopped k (k .clock + 1) Overrun (omega arith) (omega arith) (omega arith) (omega arith) g
-  goes false e l = wake-idle-good (all-swept frees j (queue j zombie-queue) (begins g going l e, earliest g) refl .0)
-
-  lives : (b : Bool) → eqb (k .clock + 1) lifetime ≡ b → Good (cond b (with-stop j Lifetime) (cond (overrun j) (with-stop j Overrun) (wake-idle (free-zombies j))))
-  lives true e = let z = eqb-true (k .clock + 1) lifetime e in stopped k (k .clock + 1) Lifetime (omega arith) (omega arith) (omega arith) (omega arith) g
-  lives false e = goes (overrun j) refl (omega (arith, before-lifetime g going, eqb-false (k .clock + 1) lifetime e))
-
-  pub ticked : Good (tick k)
+  -- What holds of each of the two stops and of a tick that goes on holds of a tick.
+  pub each-tick : (Q : Kernel → Type 0) → (k .clock + 1 ≡ lifetime → Q (with-stop j Lifetime)) → (k .clock + 1 < lifetime → Q (with-stop j Overrun))
+      → (Freeing j → Q (wake-idle (free-zombies j))) → Q (tick k)
   unfolding tick
-  ticked = lives (eqb (k .clock + 1) lifetime) refl
+  each-tick Q expires overruns goes =
+      either Q (eqb (k .clock + 1) lifetime) (λ e. expires (eqb-true (k .clock + 1) lifetime e))
+      (λ e.
+      let l : k .clock + 1 < lifetime = omega (arith, before-lifetime g going, eqb-false (k .clock + 1) lifetime e) in
+      either Q (overrun j) (λ o. overruns l) (λ o. goes (begins g going l o, earliest g)))
+
+  -- **ticked**: a tick keeps the kernel good, whether it stops it or not.
+  pub ticked : Good (tick k)
+  unfolding free-zombies
+  ticked =
+      each-tick Good (λ z. stopped k (k .clock + 1) Lifetime (omega arith) (omega arith) (omega arith) (omega arith) g)
+      (λ l. stopped k (k .clock + 1) Overrun (omega arith) (omega arith) (omega arith) (omega arith) g)
+      (λ p. wake-idle-good (all-swept frees j (queue j zombie-queue) p refl .0))

@@ -1,22 +1,20 @@
 -- First joined, first taken, over every call. Assumes nothing.
-use mathlib.Core.Path.{_≡_, refl, sym}
-use mathlib.Core.Bool.{Bool, true, false, cond}
+use mathlib.Core.Path.{_≡_, refl}
+use mathlib.Core.Bool.{true}
 use mathlib.Core.List.{List, [], _∷_}
 use mathlib.Core.Option.{Option, none, some}
 use Prim.Native.Nat.{ℕ, _+_, _<_}
 use native.Mathlib.Omega.{arith}
 use lib.Dec.{ltb, eqb}
 use lib.IntN.{ℤ}
-use borrow.Author.Tests.{eqb-false}
 use Rattle.kernel.specs.declared.Class.{Class}
 use Rattle.kernel.specs.declared.Class.the-variants.{Nrt, Hard}
-use Rattle.kernel.specs.declared.Stop.the-variants.{Overrun, Lifetime}
-use Rattle.kernel.specs.Sizes.{task-count, semaphore-count, lifetime}
+use Rattle.kernel.specs.Sizes.{task-count, semaphore-count}
 use Rattle.kernel.specs.Status.{FREE, READY, EXE, SLEEP, status-number, idle-queue, zombie-queue, waiters, stop-number}
-use Rattle.kernel.specs.Kernel.{Bare, Kernel, task, queue, semaphore, blank, is, with-clock, with-stop, next-period}
+use Rattle.kernel.specs.Kernel.{Bare, Kernel, task, queue, semaphore, blank, is, with-clock, next-period}
 use Rattle.kernel.specs.Moves.{move, schedule}
 use Rattle.kernel.specs.Tick as Tick
-use Rattle.kernel.specs.Tick.{free, wake, any-due, free-zombies, wake-idle, overrun}
+use Rattle.kernel.specs.Tick.{free, wake, any-due, free-zombies, wake-idle}
 use Rattle.kernel.specs.Tasks as Tasks
 use Rattle.kernel.specs.Tasks.{lowest-free, finish, ended}
 use Rattle.kernel.specs.Semaphores as Semaphores
@@ -27,39 +25,19 @@ use Rattle.kernel.specs.Refusals.{Handed, first, rows}
 use Rattle.kernel.specs.Step.{by-table, step}
 use Rattle.kernel.specs.Good.{Good}
 use Rattle.kernel.proofs.Allowed.{VerbAllowed, Allowed, allowed}
-use Rattle.kernel.proofs.Deadlines.{before-lifetime}
 use Rattle.kernel.proofs.Decided.{either}
 use Rattle.kernel.proofs.Lowest.{found}
 use Rattle.laws_effects.specs.UnderWay.{Freeing, Ticking}
 use Rattle.laws_effects.proofs.Standing.{stands}
-use Rattle.laws_effects.proofs.Steady.{earliest, exe}
-use Rattle.laws_effects.proofs.Sweep.{Acts, all-swept}
-use Rattle.laws_effects.proofs.Ticking.{begins}
+use Rattle.laws_effects.proofs.Sweep.{Acts, also, all-swept}
 use Rattle.laws_effects.proofs.Due.{first-zombie, first-idle, frees, wakes}
+use Rattle.laws_effects.proofs.Tick.{each-tick}
 use Rattle.laws_effects.proofs.Tasks.{ended-not-ready}
 use Rattle.laws_promises.specs.Fair.{Fair}
-use Rattle.laws_promises.proofs.Earliest.{queues-kept, tie-rule}
-use Rattle.laws_promises.proofs.Joining.{Onward, moves, beside, leaves, Orderly, runs-on, unmoved, still-orderly, dispatches, gives-way, schedules}
+use Rattle.laws_promises.proofs.Earliest.{tie-rule}
+use Rattle.laws_promises.proofs.Joining.{Onward, moves, beside, leaves, Orderly, good-orderly, ticking-orderly, runs, runs-on, unmoved, still-orderly, dispatches, gives-way, schedules}
 
 -- ---- the tick
-
-ticking-orderly : {k : Kernel} → Ticking k → Orderly k
-ticking-orderly t =
-    let s = t .steady in
-    record {
-      order = record { tasks = s .sized .tasks; lists = s .sized .queues; queues = s .queues };
-      is-task = t .running;
-      runs = λ h. let z = h .status in omega (arith, exe s (t .running));
-    }
-
--- A sweep keeps what each of its steps keeps.
-also : {P Q : Kernel → Type 0} {f : Kernel → ℕ → Kernel} {q : ℕ} → Acts P f q → ((k : Kernel) (x : ℕ) (xs : List ℕ) → P k → queue k q ≡ x ∷ xs → Q k → Q (f k x))
-    → Acts (λ k. P k × Q k) f q
-also h keeps =
-    record {
-      rising = λ p. h .rising (p .0);
-      acts = λ {k} {x} {xs} p e due. let n = h .acts (p .0) e due in ((n .0, keeps k x xs (p .0) e (p .1)), n .1);
-    }
 
 -- Whoever goes or wakes was not ready.
 module _ (from : Kernel) where
@@ -67,7 +45,7 @@ module _ (from : Kernel) where
   unfolding free
   frees-fair =
       also frees
-      (λ k x xs p e on l f.
+      (λ k x xs p e due on l f.
       let i = first-zombie (p .0) e in
       on l (moves (ticking-orderly (p .0) .order) x blank (i .0) (λ h. let z = h .status in omega (arith, i .1)) l (beside refl refl l f)))
 
@@ -75,7 +53,7 @@ module _ (from : Kernel) where
   unfolding wake
   wakes-fair =
       also wakes
-      (λ k x xs t e on l f.
+      (λ k x xs t e due on l f.
       let i = first-idle t e in
       on l (moves (ticking-orderly t .order) x (next-period (task k x)) (i .0) (λ h. let z = h .status in omega (arith, i .1)) l f))
 
@@ -87,31 +65,15 @@ module _ (from : Kernel) where
       either (Fair from) (any-due k (queue k idle-queue)) (λ e. w .1 _ (schedules o)) (λ e. w .1 _ (unmoved o refl refl refl))
 
 module _ {k : Kernel} (g : Good k) where
-  -- In a good kernel the running task is EXE.
   o : Orderly k
-  o =
-      record {
-        order = queues-kept g;
-        is-task = g .runs .running;
-        runs = λ h. let z = h .status in omega (arith, g .tasks (k .running) (g .runs .running) .exe .1 refl);
-      }
+  o = good-orderly g
 
   ticks : stop-number (k .stop) ≡ 0 → Fair k (Tick.tick k)
-  unfolding Tick.tick free-zombies
-  ticks going = lives (eqb (k .clock + 1) lifetime) refl
-    where
-      j : Kernel
-      j = with-clock k (k .clock + 1)
-
-      goes : (b : Bool) → overrun j ≡ b → k .clock + 1 < lifetime → Fair k (cond b (with-stop j Overrun) (wake-idle (free-zombies j)))
-      goes true e l = unmoved o refl refl refl
-      goes false e l =
-          let f = all-swept (frees-fair k) j (queue j zombie-queue) ((begins g going l e, earliest g), beside refl refl) refl .0 in
-          wakes-up k (f .0 .0) (f .1)
-
-      lives : (b : Bool) → eqb (k .clock + 1) lifetime ≡ b → Fair k (cond b (with-stop j Lifetime) (cond (overrun j) (with-stop j Overrun) (wake-idle (free-zombies j))))
-      lives true e = unmoved o refl refl refl
-      lives false e = goes (overrun j) refl (omega (arith, before-lifetime g going, eqb-false (k .clock + 1) lifetime e))
+  unfolding free-zombies
+  ticks going =
+      let j = with-clock k (k .clock + 1) in
+      each-tick g going (Fair k) (λ e. unmoved o refl refl refl) (λ e. unmoved o refl refl refl)
+      (λ p. let f = all-swept (frees-fair k) j (queue j zombie-queue) (p, beside refl refl) refl .0 in wakes-up k (f .0 .0) (f .1))
 
   creates : (c : Class) → (lowest-free k ≡ task-count → ⊥) → Fair k (Tasks.create c k)
   unfolding move Tasks.create lowest-free
@@ -121,7 +83,7 @@ module _ {k : Kernel} (g : Good k) where
   readied : (i : ℕ) (a : Bare) → i < task-count → (status-number (task k i .status) ≡ READY → ⊥) → (status-number (task k i .status) ≡ EXE → ⊥)
       → Fair k (schedule (move k i a))
   readied i a l not-ready not-exe =
-      moves (o .order) i a l (λ h. not-ready (h .status)) _ (schedules (still-orderly o i a l (λ z. not-exe (g .tasks i l .exe .1 (sym z)))))
+      moves (o .order) i a l (λ h. not-ready (h .status)) _ (schedules (still-orderly o i a l not-exe))
 
   activates : (n : ℕ) → n < task-count → status-number (task k n .status) ≡ SLEEP → Fair k (Tasks.activate n k)
   unfolding Tasks.activate
@@ -132,7 +94,7 @@ module _ {k : Kernel} (g : Good k) where
   ends =
       let r = k .running in
       let again = tie-rule (o .order) .again r (ended (task k r) (task k r .class)) (o .is-task) in
-      moves (o .order) r _ (o .is-task) (o .runs) _ (beside refl refl _ (dispatches (record { tasks = again .tasks; lists = again .lists; queues = again .queues })))
+      moves (o .order) r _ (o .is-task) (runs o) _ (beside refl refl _ (dispatches (record { tasks = again .tasks; lists = again .lists; queues = again .queues })))
 
   kills : (n : ℕ) → n < task-count → Fair k (Tasks.kill n k)
   unfolding move Tasks.kill finish

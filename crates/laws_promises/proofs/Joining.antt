@@ -9,15 +9,18 @@ use lib.ListN.{getD}
 use lib.Dec.{ltb}
 use Rattle.kernel.specs.declared.Status.the-variants.{Exe, Ready}
 use Rattle.kernel.specs.Sizes.{task-count}
-use Rattle.kernel.specs.Status.{READY, status-number, ready-queue}
+use Rattle.kernel.specs.Status.{READY, EXE, status-number, ready-queue}
 use Rattle.kernel.specs.Kernel.{Bare, Kernel, task, queue, blank, with-status}
 use Rattle.kernel.specs.Moves.{move, run, dispatch, preempt, yield, schedule}
+use Rattle.kernel.specs.Good.{Good}
 use Rattle.kernel.proofs.Moves.{Movable, moved-task, kept-task}
+use Rattle.laws_effects.specs.UnderWay.{Ticking}
 use Rattle.laws_effects.proofs.Standing.{stands}
+use Rattle.laws_effects.proofs.Steady.{exe}
 use Rattle.laws_promises.specs.Earliest.{Before, IsReady, QueuesKept}
 use Rattle.laws_promises.specs.Fair.{Fair}
 use Rattle.laws_promises.proofs.Before.{never-first}
-use Rattle.laws_promises.proofs.Earliest.{movable, queue-standing, joins, tie-rule}
+use Rattle.laws_promises.proofs.Earliest.{movable, queue-standing, joins, tie-rule, queues-kept}
 
 -- The deadline in a record.
 abbrev deadline-in : Bare → ℕ
@@ -131,28 +134,40 @@ leaves {k} {j} o i a l out t q u =
 
 -- ---- who gets the processor
 
--- While a call is under way the queues are in order, and the running task is a task that is not ready.
+-- While a call is under way: the queues are in order, and the stored task is EXE.
 pub record Orderly (k : Kernel) : Type 0 where
   pub order : QueuesKept k
   pub is-task : k .running < task-count
-  pub runs : IsReady k (k .running) → ⊥
+  pub exe : status-number (task k (k .running) .status) ≡ EXE
+
+pub good-orderly : {k : Kernel} → Good k → Orderly k
+good-orderly {k} g = record { order = queues-kept g; is-task = g .runs .running; exe = g .tasks (k .running) (g .runs .running) .exe .1 refl }
+
+pub ticking-orderly : {k : Kernel} → Ticking k → Orderly k
+ticking-orderly t =
+    let s = t .steady in
+    record { order = record { tasks = s .sized .tasks; lists = s .sized .queues; queues = s .queues }; is-task = t .running; exe = exe s (t .running) }
+
+-- So it is not ready.
+pub runs : {k : Kernel} → Orderly k → IsReady k (k .running) → ⊥
+runs o h = let e = o .exe in let z = h .status in omega arith
 
 -- Who runs on was not ready.
 pub runs-on : {k : Kernel} → Orderly k → Unpassed k (k .running)
-runs-on o x h b = o .runs h
+runs-on o x h b = runs o h
 
 -- Neither a record nor a queue changes, nor who runs.
 pub unmoved : {k j : Kernel} → Orderly k → j .tasks ≡ k .tasks → j .queues ≡ k .queues → j .running ≡ k .running → Fair k j
 unmoved o t q r = stand (λ x h. same-record t x) (λ x y hx hy b. rw q b) (rw r (runs-on o))
 
 -- Another task than the running one has moved.
-pub still-orderly : {k : Kernel} → Orderly k → (i : ℕ) (a : Bare) → i < task-count → (k .running ≡ i → ⊥) → Orderly (move k i a)
+pub still-orderly : {k : Kernel} → Orderly k → (i : ℕ) (a : Bare) → i < task-count → (status-number (task k i .status) ≡ EXE → ⊥) → Orderly (move k i a)
 unfolding move
-still-orderly {k} o i a l ne =
+still-orderly {k} o i a l other =
     record {
       order = tie-rule (o .order) .again i a l;
       is-task = o .is-task;
-      runs = λ h. o .runs (as-ready (sym (kept-task (movable (o .order) i l) a (k .running) ne)) h);
+      exe = rw (kept-task (movable (o .order) i l) a (k .running) (λ e. other (subst (λ (x : ℕ). status-number (task k x .status) ≡ EXE) e (o .exe)))) (o .exe);
     }
 
 pub dispatches : {k : Kernel} → QueuesKept k → Fair k (dispatch k)
@@ -168,7 +183,7 @@ dispatches {k} o = go (queue k ready-queue) refl
 
 -- The running task goes out of the processor, and the first ready task runs.
 pub gives-way : {k : Kernel} → Orderly k → (a : Bare) → Fair k (dispatch (move k (k .running) a))
-gives-way {k} o a = moves (o .order) (k .running) a (o .is-task) (o .runs) _ (dispatches (tie-rule (o .order) .again (k .running) a (o .is-task)))
+gives-way {k} o a = moves (o .order) (k .running) a (o .is-task) (runs o) _ (dispatches (tie-rule (o .order) .again (k .running) a (o .is-task)))
 
 pub schedules : {k : Kernel} → Orderly k → Fair k (schedule k)
 unfolding preempt schedule

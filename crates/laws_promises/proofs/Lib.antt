@@ -8,6 +8,7 @@ pub mod Before
 pub mod Earliest
 pub mod Joining
 pub mod Fair
+pub mod Lasting
 pub mod Memory
 pub mod Stops
 pub mod Showings

@@ -8,8 +8,8 @@ use Rattle.kernel.specs.Step.{step}
 use Rattle.laws_promises.specs.Earliest.{Before, IsReady}
 use Rattle.laws_promises.specs.Fair.{Fair}
 use Rattle.laws_promises.proofs.Fair.{step-fair}
-use Rattle.laws_runs.specs.Run.{after}
-use Rattle.laws_runs.specs.Fair.{kernel-after, ReadySince, JoinedFirst, FirstJoined}
+use Rattle.laws_runs.specs.Run.{after, kernel-after}
+use Rattle.laws_runs.specs.Fair.{ReadySince, JoinedFirst, FirstJoined}
 use Rattle.laws_runs.proofs.Whole.{run-good}
 
 module _ (m : List ℕ) where

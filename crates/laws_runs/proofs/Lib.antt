@@ -12,3 +12,4 @@ pub mod Frauds
 pub mod Example
 pub mod Fair
 pub mod FairExample
+pub mod Activations

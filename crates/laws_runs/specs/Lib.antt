@@ -9,3 +9,4 @@ pub mod Open
 pub mod Frauds
 pub mod Example
 pub mod Fair
+pub mod Activations

@@ -38,6 +38,9 @@ module _ (step : Call → Handed → Outcome) (m : List ℕ) where
   after [] = record { kernel = fresh; memory = m }
   after (c ∷ cs) = let o = step c (handed (after cs)) in record { kernel = o .kernel; memory = o .memory }
 
+  abbrev pub kernel-after : List Call → Kernel
+  kernel-after cs = after cs .kernel
+
   unfoldable pub trace : List Call → List Event
   trace [] = []
   trace (c ∷ cs) = event c (after cs) (step c (handed (after cs))) ∷ trace cs
