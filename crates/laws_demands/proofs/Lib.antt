@@ -8,4 +8,5 @@ pub mod One
 pub mod Two
 pub mod Stops
 pub mod Three
+pub mod Activations
 pub mod Example

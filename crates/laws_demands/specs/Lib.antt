@@ -2,5 +2,6 @@
 pub mod Functions
 pub mod Run
 pub mod AsModel
+pub mod Activations
 pub mod Every
 pub mod Legal

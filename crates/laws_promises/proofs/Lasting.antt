@@ -5,7 +5,7 @@ use mathlib.Core.List.{List, [], _∷_}
 use Prim.Native.Nat.{ℕ, _+_, _≤_, _<_}
 use native.Mathlib.Omega.{arith}
 use lib.Dec.{ltb, eqb}
-use borrow.Author.Tests.{eqb-true}
+use borrow.Author.Tests.{ltb-false, eqb-true}
 use Rattle.kernel.specs.declared.Class.{Class}
 use Rattle.kernel.specs.declared.Class.the-variants.{Nrt, Hard}
 use Rattle.kernel.specs.declared.Status.{Status}
@@ -51,7 +51,7 @@ activated t a = with-status (with-deadline a (release (a .class) t (a .deadline)
 pub record Lasting (A : Type 0) (P : ℕ → Bare → Type 0) : Type 0 where
   pub later : {t : ℕ} {a : Bare} → P t a → P (t + 1) a
   pub restated : {t : ℕ} {a : Bare} → Active a → (st : Status) → (status-number st ≡ FREE → ⊥) → P t a → P t (with-status a st)
-  pub renewed : {t : ℕ} {a : Bare} → Active a → P t a → P t (next-period a)
+  pub renewed : {t : ℕ} {a : Bare} → Active a → a .deadline ≤ t → P t a → P t (next-period a)
   pub activates : {t : ℕ} {a : Bare} → A → status-number (a .status) ≡ SLEEP → (hard (a .class) ≡ true → a .deadline ≤ t) → P t a → P t (activated t a)
   pub created : {t : ℕ} {a : Bare} → status-number (a .status) ≡ FREE → (c : Class) → P t a → P t (record { class = c; status = Sleep; deadline = first-deadline c t })
   pub ends : {t : ℕ} {a : Bare} → (status-number (a .status) ≡ FREE → ⊥) → P t a → P t (ended a (a .class))
@@ -111,7 +111,7 @@ module _ {A : Type 0} {P : ℕ → Bare → Type 0} (lasts : Lasting A P) (n : �
       (λ k x xs t e due.
       let i = first-idle t e in
       let idle = i .1 in
-      moves (ticking-orderly t .order) x (next-period (task k x)) (i .0) (λ z. lasts .renewed (omega arith)))
+      moves (ticking-orderly t .order) x (next-period (task k x)) (i .0) (λ z. lasts .renewed (omega arith) due))
 
   wakes-up : {k : Kernel} → Ticking k → Of k → Of (wake-idle k)
   unfolding wake-idle
@@ -174,7 +174,7 @@ module _ {A : Type 0} {P : ℕ → Bare → Type 0} (lasts : Lasting A P) (n : �
     verb-lasts sleep o a may h = gives-way r _ (λ b. lasts .restated b Sleep (omega arith)) h
     verb-lasts cycle o a may h =
         gives-way r _
-        (λ b p. either (P (k .clock)) (ltb (k .clock) (task k (k .running) .deadline)) (λ e. lasts .restated b Idle (omega arith) p) (λ e. lasts .renewed b p)) h
+        (λ b p. either (P (k .clock)) (ltb (k .clock) (task k (k .running) .deadline)) (λ e. lasts .restated b Idle (omega arith) p) (λ e. lasts .renewed b (ltb-false (k .clock) (task k (k .running) .deadline) e) p)) h
     verb-lasts end o a may h = stops h
     verb-lasts (kill i) o a may h = either Of (eqb i (k .running)) (λ e. stops h) (λ e. finishes i (a .1 .0) (a .1 .1) h)
     verb-lasts (new-semaphore s) o a may h = h

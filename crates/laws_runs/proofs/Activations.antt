@@ -63,7 +63,7 @@ module _ (d : ℕ) where
       record {
         later = later;
         restated = λ x st used. up-to (λ e. inr (record { is-hard = e .is-hard; used = used; ahead = e .ahead }));
-        renewed = λ x. up-to (λ e. inr (record { is-hard = e .is-hard; used = omega arith; ahead = omega (arith, e .ahead) }));
+        renewed = λ x due. up-to (λ e. inr (record { is-hard = e .is-hard; used = omega arith; ahead = omega (arith, e .ahead) }));
         activates = λ x asleep due. up-to (λ e. inl (omega (arith, e .ahead, due (e .is-hard))));
         created = λ free c. up-to (λ e. absurd (e .used free));
         ends = λ {t} {a} used. up-to (λ e. inr (ends a (a .class) (e .is-hard) e));
@@ -88,7 +88,7 @@ quiet-lasts =
     record {
       later = λ q. record { inactive = q .inactive; due = λ s h. omega (arith, q .due s h) };
       restated = λ x st used q. absurd (q .inactive x);
-      renewed = λ x q. absurd (q .inactive x);
+      renewed = λ x due q. absurd (q .inactive x);
       activates = λ x. absurd x;
       created = λ {t} free c q. record { inactive = λ x. x .awake refl; due = λ s. first-quiet t c };
       ends = λ {t} {a} used q. ended-quiet t a (a .class);

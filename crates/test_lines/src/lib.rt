@@ -86,7 +86,7 @@ pub fn folded(check: u64, n: u32) -> u64
     (check * 31 + n as u64) % 4294967291
 }
 
-// Answers go down to -14: 100 above them are numbers from 0 on.
+// Answers go down to -15: 100 above them are numbers from 0 on.
 fn raised(n: i64) -> u32 {
     if n < 0 {
         let below = (-1 - n) as u64;
