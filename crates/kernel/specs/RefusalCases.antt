@@ -150,19 +150,19 @@ row-9 =
     ++ map verb (signal 1 ∷ []) all-refused- 9
     ++ (verb (signal 0) gives 0 runs 1 ∷ verb (delete 0) gives 0 runs 1 ∷ []))
 
--- -15: a HARD task is activated while the clock is below its deadline. Task 1 is activated at 0, and so has deadline 4, and sleeps at 1: it is refused
--- at 1 and at 3 and taken at 4. Killed, it is a zombie; the task that is created then was never activated, and is taken at once. An NRT task is not
--- concerned.
+-- -15: a HARD task is activated while the clock is below its deadline. Task 1 is activated at 0, so has deadline 4, and sleeps at 1: it is refused at
+-- 1 and at 3 and taken at 4. Task 2 was created at 0 and never activated: at 4 it is taken, with deadline 12. Task 1 is killed; the task that is
+-- created then is taken at once, and refused when it has slept. An NRT task is not concerned.
 abbrev row-15 : Case
 row-15 =
     row 15
-    ((verb (create-hard 4 1) gives 1 runs 0 ∷ verb (activate 1) gives 0 runs 1 ∷ verb tick gives 0 runs 1 ∷ verb sleep gives 0 runs 0 ∷ [])
-    ++ map verb (activate 1 ∷ []) all-refused- 15
-    ++ (verb tick gives 0 runs 0 ∷ verb tick gives 0 runs 0 ∷ [])
-    ++ map verb (activate 1 ∷ []) all-refused- 15
-    ++ (verb tick gives 0 runs 0 ∷ verb (activate 1) gives 0 runs 1 ∷ verb (kill 1) gives 0 runs 0 ∷ [])
-    ++ (verb (create-hard 4 1) gives 2 runs 0 ∷ verb (activate 2) gives 0 runs 2 ∷ verb sleep gives 0 runs 0 ∷ [])
-    ++ (verb (create-nrt 1) gives 3 runs 0 ∷ verb (activate 3) gives 0 runs 3 ∷ verb sleep gives 0 runs 0 ∷ verb (activate 3) gives 0 runs 3 ∷ []))
+    ((verb (create-hard 4 1) gives 1 runs 0 ∷ verb (create-hard 8 1) gives 2 runs 0 ∷ verb (activate 1) gives 0 runs 1 ∷ [])
+    ++ (verb tick gives 0 runs 1 ∷ verb sleep gives 0 runs 0 ∷ verb (activate 1) refused- 15 ∷ [])
+    ++ (verb tick gives 0 runs 0 ∷ verb tick gives 0 runs 0 ∷ verb (activate 1) refused- 15 ∷ [])
+    ++ (verb tick gives 0 runs 0 ∷ verb (activate 1) gives 0 runs 1 ∷ verb (activate 2) gives 0 runs 1 ∷ question (deadline 2) gives 12 runs 1 ∷ [])
+    ++ (verb (kill 1) gives 0 runs 2 ∷ verb (create-hard 4 1) gives 3 runs 2 ∷ verb (activate 3) gives 0 runs 3 ∷ [])
+    ++ (verb sleep gives 0 runs 2 ∷ verb (activate 3) refused- 15 ∷ verb sleep gives 0 runs 0 ∷ [])
+    ++ (verb (create-nrt 1) gives 4 runs 0 ∷ verb (activate 4) gives 0 runs 4 ∷ verb sleep gives 0 runs 0 ∷ verb (activate 4) gives 0 runs 4 ∷ []))
 
 -- -4: no FREE task. It answers before -3, and -7 before it.
 abbrev row-4 : Case
