@@ -15,9 +15,8 @@ use Rattle.kernel.specs.Sizes.{task-count, semaphore-count, channel-coun
 use Rattle.kernel.specs.Status.{queue-of, queue-count}
 use Rattle.kernel.specs.Kernel.{Bare, blank, task, queue, semaphore, channel, session, unused-semaphore, unused-channel, slot, slot-number}
 use Rattle.kernel.specs.Good.{Good, GoodTask, GoodSemaphore, GoodChannel, Opens, standing, deadline-of}
-use Rattle.kernel.specs.Layout.{head-at, field, next-word, previous-word}
 use Rattle.kernel.specs.Codes.{none}
-use Rattle.kernel.specs.Fresh.{main, fresh, fresh-at, headless, unlinked}
+use Rattle.kernel.specs.Fresh.{main, fresh, fresh-at, with-none}
 
 -- A list of one thing holds it at each number, past its end too where that is what is read there.
 everywhere : {A : Type 0} (n : ℕ) (a : A) (i : ℕ) → getD (replicate n a) i a ≡ a
@@ -143,21 +142,13 @@ pub fresh-good : Good fresh
 unfolding fresh
 fresh-good = fresh-at-good 0 (omega arith)
 
--- ---- the words, one head more, and one task more
+-- ---- the words, one -1 more
 
-module _ (w : List ℕ) where
-  pub no-head : w ≡ headless w 0
-  unfolding headless
-  no-head = refl
+module _ (w : List ℕ) (from step : ℕ) where
+  pub none-yet : w ≡ with-none w from step 0
+  unfolding with-none
+  none-yet = refl
 
-  pub one-head : (v : List ℕ) (n : ℕ) → v ≡ headless w n → set v (head-at n) none ≡ headless w (n + 1)
-  unfolding headless
-  one-head v n e = let z : suc n ≡ n + 1 = omega arith in ap (λ (u : List ℕ). set u (head-at n) none) e ∙ ap (headless w) z
-
-  pub no-link : w ≡ unlinked w 0
-  unfolding unlinked
-  no-link = refl
-
-  pub one-task : (v : List ℕ) (n : ℕ) → v ≡ unlinked w n → set (set v (field n next-word) none) (field n previous-word) none ≡ unlinked w (n + 1)
-  unfolding unlinked
-  one-task v n e = let z : suc n ≡ n + 1 = omega arith in ap (λ (u : List ℕ). set (set u (field n next-word) none) (field n previous-word) none) e ∙ ap (unlinked w) z
+  pub one-more : (v : List ℕ) (n : ℕ) → v ≡ with-none w from step n → set v (from + step * n) none ≡ with-none w from step (n + 1)
+  unfolding with-none
+  one-more v n e = let z : suc n ≡ n + 1 = omega arith in ap (λ (u : List ℕ). set u (from + step * n) none) e ∙ ap (with-none w from step) z

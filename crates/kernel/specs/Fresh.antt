@@ -1,6 +1,6 @@
 -- The fresh kernel: clock 0, no stop, task 0 EXE, the rest FREE or unused, share total 0. Assumes nothing.
 use mathlib.Core.List.{List, [], _∷_}
-use Prim.Native.Nat.{ℕ, zero, suc, _-_, _*_}
+use Prim.Native.Nat.{ℕ, zero, suc, _+_, _-_, _*_}
 use lib.ListN.{set, replicate}
 use Rattle.kernel.specs.declared.Class.the-variants.{Nrt}
 use Rattle.kernel.specs.declared.Status.the-variants.{Exe}
@@ -9,7 +9,7 @@ use Rattle.kernel.specs.declared.Session.the-variants.{Closed}
 use Rattle.kernel.specs.declared.State.{State}
 use Rattle.kernel.specs.Sizes.{task-count, semaphore-count, channel-count, main-priority, nrt-deadline}
 use Rattle.kernel.specs.Status.{queue-count}
-use Rattle.kernel.specs.Layout.{head-at, field, amount-word, status-word, deadline-word, next-word, previous-word, word-count}
+use Rattle.kernel.specs.Layout.{heads-at, record-size, field, amount-word, status-word, deadline-word, next-word, previous-word, word-count}
 use Rattle.kernel.specs.Codes.{none, status-code}
 use Rattle.kernel.specs.Kernel.{Bare, Kernel, blank, unused-semaphore, unused-channel, slot, with-clock}
 
@@ -37,15 +37,10 @@ fresh-at n = with-clock fresh n
 
 -- ---- its words
 
--- The first n heads are -1.
-unfoldable pub headless : List ℕ → ℕ → List ℕ
-headless w zero = w
-headless w (suc n) = set (headless w n) (head-at n) none
-
--- The links of the first n tasks are -1.
-unfoldable pub unlinked : List ℕ → ℕ → List ℕ
-unlinked w zero = w
-unlinked w (suc n) = set (set (unlinked w n) (field n next-word) none) (field n previous-word) none
+-- -1 in n words: the first at this place, and each so many behind the one before.
+unfoldable pub with-none : List ℕ → (from step n : ℕ) → List ℕ
+with-none w from step zero = w
+with-none w from step (suc n) = set (with-none w from step n) (from + step * n) none
 
 -- The record of task 0 is the main task's.
 unfoldable pub with-main : List ℕ → List ℕ
@@ -53,7 +48,10 @@ with-main w = set (set (set w (field 0 amount-word) main-priority) (field 0 stat
 
 -- Every word is 0 but for heads, links and the main task.
 unfoldable pub fresh-words : List ℕ
-fresh-words = with-main (unlinked (headless (replicate word-count 0) queue-count) task-count)
+fresh-words =
+    let headless = with-none (replicate word-count 0) heads-at 1 queue-count in
+    let nextless = with-none headless (field 0 next-word) record-size task-count in
+    with-main (with-none nextless (field 0 previous-word) record-size task-count)
 
 abbrev pub fresh-state : State
 fresh-state = record { words = fresh-words }

@@ -1,9 +1,11 @@
 // The state of one controller, with its sizes, its numbers and its fresh kernel, and what a call gives back.
 ghost use mathlib.Core.Path.{_≡_};
-ghost use Rattle.kernel.specs.Status.{status-number, stop-number, waiting, queue-count, queue-of};
-ghost use Rattle.kernel.specs.Sizes.{task-count, fitting};
+ghost use Prim.Native.Nat.{_+_, _*_, _≤_};
+ghost use Rattle.kernel.specs.Status.{status-number, stop-number, waiting, queue-of};
+ghost use Rattle.kernel.specs.Sizes.{fitting};
+ghost use Rattle.kernel.specs.Layout.{word-count};
 ghost use Rattle.kernel.specs.Kernel.{period-of};
-ghost use Rattle.kernel.specs.Fresh.{headless, unlinked, fresh-state};
+ghost use Rattle.kernel.specs.Fresh.{with-none, fresh-state};
 
 // Numbers of three kinds, which cannot be mixed. A caller may hand in any.
 pub struct TaskNo(pub usize);
@@ -216,24 +218,15 @@ impl State {
     pub const TOO_SOON: i64 = -15;
 }
 
-fn no_heads(w: &mut [u32; State::WORDS])
-    ensures { λ _. ⌜ now (w .exit) ≡ headless (now (w .entry)) queue-count ⌝ }
+// -1 in so many words: the first at `from`, and each `step` behind the one before.
+fn none_at(w: &mut [u32; State::WORDS], from: usize, step: usize, count: usize)
+    requires { ⌜ 1 ≤ step ⌝ ∗ ⌜ from + step * count ≤ word-count ⌝ }
+    ensures { λ _. ⌜ now (w .exit) ≡ with-none (now (w .entry)) from step count ⌝ }
 {
-    let mut q: usize = 0;
-    while q < State::QUEUES {
-        w[State::HEADS_AT + q] = State::NONE;
-        q += 1;
-    }
-}
-
-fn no_links(w: &mut [u32; State::WORDS])
-    ensures { λ _. ⌜ now (w .exit) ≡ unlinked (now (w .entry)) task-count ⌝ }
-{
-    let mut x: usize = 0;
-    while x < State::TASKS {
-        w[State::TASKS_AT + Task::WORDS * x + Task::NEXT] = State::NONE;
-        w[State::TASKS_AT + Task::WORDS * x + Task::PREVIOUS] = State::NONE;
-        x += 1;
+    let mut i: usize = 0;
+    while i < count {
+        w[from + step * i] = State::NONE;
+        i += 1;
     }
 }
 
@@ -243,8 +236,19 @@ impl State {
         ensures { λ r. ⌜ r ≡ fresh-state ⌝ }
     {
         let mut w = [0u32; State::WORDS];
-        no_heads(&mut w);
-        no_links(&mut w);
+        none_at(&mut w, State::HEADS_AT, 1, State::QUEUES);
+        none_at(
+            &mut w,
+            State::TASKS_AT + Task::NEXT,
+            Task::WORDS,
+            State::TASKS,
+        );
+        none_at(
+            &mut w,
+            State::TASKS_AT + Task::PREVIOUS,
+            Task::WORDS,
+            State::TASKS,
+        );
         w[State::TASKS_AT + Task::AMOUNT] = State::MAIN_PRIORITY;
         w[State::TASKS_AT + Task::STATUS] = Task::EXE;
         w[State::TASKS_AT + Task::DEADLINE] = State::NRT_DEADLINE + State::MAIN_PRIORITY;

@@ -3,7 +3,7 @@ use mathlib.Core.Path.{_≡_, refl, sym, subst}
 use mathlib.Core.List.{List}
 use Prim.Native.Nat.{ℕ}
 use Rattle.kernel.specs.Good.{Good}
-use Rattle.kernel.specs.Fresh.{fresh, headless, unlinked, with-main, fresh-words}
+use Rattle.kernel.specs.Fresh.{fresh, with-none, with-main, fresh-words}
 use Rattle.kernel.specs.Seen.{tabulate, seen}
 use Rattle.kernel.specs.Sound.{Sound}
 use Rattle.kernel.specs.Shows.{Shows}
@@ -12,7 +12,7 @@ use Rattle.laws_words.proofs.Shown.{code, words-of, shown}
 
 -- Computed, word by word.
 are : fresh-words ≡ words-of fresh
-unfolding fresh-words with-main headless unlinked fresh words-of code tabulate
+unfolding fresh-words with-main with-none fresh words-of code tabulate
 are = refl
 
 -- **fresh-shown**: the fresh words show the fresh kernel.
