@@ -11,8 +11,8 @@ use Rattle.kernel.specs.Calls.{activate, Call, verb}
 use Rattle.kernel.specs.Step.{step}
 use Rattle.laws_runs.specs.Trace.{Event, accepted, own-events, AsidesRefused}
 use Rattle.laws_runs.specs.Run.{handed, after, kernel-after, trace}
-use Rattle.laws_runs.specs.Activations.{Takes, Unactivated as UnactivatedBy}
 use Rattle.laws_runs.proofs.Activations as Model
+use Rattle.laws_runs.proofs.Activations.{Takes, Unactivated as UnactivatedBy}
 use Rattle.laws_demands.specs.AsModel.{calls}
 use Rattle.laws_demands.specs.Activations.{Activation, OnceAPeriod, Unactivated, NeverActivatedPasses}
 use Rattle.laws_demands.proofs.Model.{as-model, asides-refused}
@@ -72,11 +72,11 @@ module _ (m : List ℕ) where
 
   module _ (x : ℕ) where
     -- An activation that took effect is one of the model.
-    takes : (e : Event) (h : List Event) → Told (e ∷ h) → Activation x e → Takes step m (verb (activate x)) (calls h)
+    takes : (e : Event) (h : List Event) → Told (e ∷ h) → Activation x e → Takes m (verb (activate x)) (calls h)
     takes e h t a =
-        subst (λ (c : Call). Takes step m c (calls h)) (a .call) (ap (λ (z : Said). z .refusal) (sym (answers e h t)) ∙ not-true (e .answer .refusal) (a .taken))
+        subst (λ (c : Call). Takes m c (calls h)) (a .call) (ap (λ (z : Said). z .refusal) (sym (answers e h t)) ∙ not-true (e .answer .refusal) (a .taken))
 
-    unactivated : (g h : List Event) → Told (g ++ h) → Unactivated x g → UnactivatedBy step m x (calls h) (calls g)
+    unactivated : (g h : List Event) → Told (g ++ h) → Unactivated x g → UnactivatedBy m x (calls h) (calls g)
     unactivated [] h t u = tt
     unactivated (e ∷ g) h t u = (
       λ is taken.
@@ -118,7 +118,7 @@ once-a-period m n o p s t u g h d e x r between again one two there =
     (Model.once-a-period m x (calls before) (calls past)
     (subst (λ (k : Kernel). hard (task k x .class) ≡ true) (as-model r .kernel-is) there)
     (takes m x e before (behind-all m past (e ∷ before) (behind m d (past ++ e ∷ before) told)) one)
-    (subst (Takes step m (verb (activate x))) so (takes m x d (past ++ e ∷ before) told two)))
+    (subst (Takes m (verb (activate x))) so (takes m x d (past ++ e ∷ before) told two)))
 
 -- **never-activated-passes**: a task that was never activated is not refused with -15.
 pub never-activated-passes : NeverActivatedPasses

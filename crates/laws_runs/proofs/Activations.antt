@@ -1,4 +1,5 @@
--- A HARD task is activated once a period at most, and one never activated is never too soon. Assumes nothing.
+-- A HARD task is activated once a period at most, and one never activated is never too soon, in every run of the model; what that says of the functions is
+-- promised in `laws_demands`. Assumes nothing.
 use mathlib.Core.Path.{_≡_, refl, ap, sym, _∙_}
 use mathlib.Core.Bool.{Bool, true, false, true≢false, false≢true, and-eq-true-iff}
 use mathlib.Core.Logic.{_⊎_, inl, inr}
@@ -29,7 +30,6 @@ use Rattle.laws_promises.proofs.Earliest.{movable, queues-kept}
 use Rattle.laws_promises.proofs.Joining.{good-orderly, still-orderly}
 use Rattle.laws_promises.proofs.Lasting.{Active, activated, Lasting, schedules, call-lasts}
 use Rattle.laws_runs.specs.Run.{World, handed, after, kernel-after}
-use Rattle.laws_runs.specs.Activations.{Takes, OnceAPeriod, Unactivated, NeverActivatedPasses}
 use Rattle.laws_runs.proofs.Whole.{either-way, run-good}
 
 -- ---- what lasts
@@ -133,8 +133,17 @@ answered f h none e = absurd (done-refused e)
 answered f h (some y) e = ap (λ (z : Said). some (z .number)) e
 
 module _ (m : List ℕ) where
+  -- The call c, made after the calls cs, takes effect.
+  abbrev pub Takes : Call → List Call → Type 0
+  Takes c cs = step c (handed (after step m cs)) .answer .refusal ≡ false
+
+  -- None of the calls ds, made after the calls cs, activated task n.
+  abbrev pub Unactivated : ℕ → List Call → List Call → Type 0
+  Unactivated n cs [] = Unit {0}
+  Unactivated n cs (d ∷ ds) = (d ≡ verb (activate n) → Takes d (ds ++ cs) → ⊥) × Unactivated n cs ds
+
   -- What lasts of task n's record, over one call.
-  next : {A : Type 0} {P : ℕ → Bare → Type 0} → Lasting A P → (n : ℕ) (c : Call) (cs : List Call) → (c ≡ verb (activate n) → Takes step m c cs → A)
+  next : {A : Type 0} {P : ℕ → Bare → Type 0} → Lasting A P → (n : ℕ) (c : Call) (cs : List Call) → (c ≡ verb (activate n) → Takes c cs → A)
       → P (kernel-after step m cs .clock) (task (kernel-after step m cs) n)
       → P (kernel-after step m (c ∷ cs) .clock) (task (kernel-after step m (c ∷ cs)) n)
   unfolding after step
@@ -151,12 +160,12 @@ module _ (m : List ℕ) where
     engaged d [] h = h
     engaged d (c ∷ ds) h = next (engaged-lasts d) n c (ds ++ cs) (λ e t. tt) (engaged d ds h)
 
-    quiet : (ds : List Call) → Unactivated step m n cs ds → status-number (task (kernel-after step m cs) n .status) ≡ FREE
+    quiet : (ds : List Call) → Unactivated n cs ds → status-number (task (kernel-after step m cs) n .status) ≡ FREE
         → Quiet (kernel-after step m (ds ++ cs) .clock) (task (kernel-after step m (ds ++ cs)) n)
     quiet [] u free = record { inactive = λ x. x .used free; due = λ s. absurd (omega arith) }
     quiet (c ∷ ds) u free = next quiet-lasts n c (ds ++ cs) (u .0) (quiet ds (u .1) free)
 
-  module _ (n : ℕ) (cs : List Call) (t : Takes step m (verb (activate n)) cs) where
+  module _ (n : ℕ) (cs : List Call) (t : Takes (verb (activate n)) cs) where
     abbrev w : World
     w = after step m cs
 
@@ -178,7 +187,9 @@ module _ (m : List ℕ) where
     begun h = legal (λ k. UpTo (w .kernel .clock + period-of (task (w .kernel) n .class)) (k .clock) (task k n)) (λ a. activation-engages (run-good m cs) n a h)
 
   -- **once-a-period**: a HARD task is activated at most once in its period.
-  pub once-a-period : OnceAPeriod step m
+  pub once-a-period : (n : ℕ) (cs ds : List Call) → hard (task (kernel-after step m cs) n .class) ≡ true → Takes (verb (activate n)) cs
+      → Takes (verb (activate n)) (ds ++ verb (activate n) ∷ cs)
+      → kernel-after step m cs .clock + period-of (task (kernel-after step m cs) n .class) ≤ kernel-after step m (ds ++ verb (activate n) ∷ cs) .clock
   once-a-period n cs ds h one two = by (engaged n (verb (activate n) ∷ cs) _ ds (begun n cs one h))
     where
       by : {d : ℕ} → UpTo d (kernel-after step m (ds ++ verb (activate n) ∷ cs) .clock) (task (kernel-after step m (ds ++ verb (activate n) ∷ cs)) n)
@@ -187,7 +198,8 @@ module _ (m : List ℕ) where
       by (inr e) = omega (arith, e .ahead, told n (ds ++ verb (activate n) ∷ cs) two .2 (e .is-hard))
 
   -- **never-activated-passes**: a task that was never activated is not refused with -15.
-  pub never-activated-passes : NeverActivatedPasses step m
+  pub never-activated-passes : (n : ℕ) (cs ds : List Call) → status-number (task (kernel-after step m cs) n .status) ≡ FREE → Unactivated n cs ds
+      → step (verb (activate n)) (handed (after step m (ds ++ cs))) .answer ≡ refused -15 → ⊥
   unfolding step
   never-activated-passes n cs ds free u e =
       let k = kernel-after step m (ds ++ cs) in

@@ -13,3 +13,4 @@ pub mod Example
 pub mod Fair
 pub mod FairExample
 pub mod Activations
+pub mod ActivationsExample

@@ -9,4 +9,3 @@ pub mod Open
 pub mod Frauds
 pub mod Example
 pub mod Fair
-pub mod Activations
