@@ -1,7 +1,8 @@
 -- One text after another in a buffer. Assumes nothing.
-use mathlib.Core.Path.{_≡_, refl, ap, _∙_}
-use mathlib.Core.List.{List, _++_, append-assoc}
+use mathlib.Core.Path.{_≡_, refl, ap, sym, _∙_}
+use mathlib.Core.List.{List, [], _++_, append-assoc, append-nil}
 use Prim.Native.Nat.{ℕ, _+_, _≤_}
+use native.Mathlib.Numerals.{unary-clauses}
 use native.Mathlib.Omega.{arith}
 use lib.ListN.{length, take, drop, length-append, length-take}
 use lib.Seq.{length-take-le, take-at}
@@ -18,6 +19,10 @@ written b text at fits =
       size = over-length b at text fits;
       holds = rw (← append-assoc (take at b) text (drop (at + length text) b)) (take-at (take at b ++ text) (drop (at + length text) b) (at + length text) front);
     }
+
+-- No text.
+pub nothing : (b : List ℕ) (at : ℕ) → Continued b at [] b at
+nothing b at = record { ends = simp unary-clauses; size = refl; holds = sym (append-nil (take at b)) }
 
 -- Two texts, one behind the other, are one.
 pub follows

@@ -21,7 +21,7 @@ pub fn put(buffer: &mut [u8], at: usize, text: &[u8]) -> usize
     at + text.len()
 }
 
-fn decimal(buffer: &mut [u8], at: usize, n: u64) -> usize
+pub fn decimal(buffer: &mut [u8], at: usize, n: u64) -> usize
     requires { ⌜ at + length (Text.decimal n) ≤ length (now buffer) ⌝ }
     ensures { λ r. ⌜ Continued (now (buffer .entry)) at (Text.decimal n) (now (buffer .exit)) r ⌝ }
 {
@@ -44,7 +44,7 @@ pub fn number(buffer: &mut [u8], at: usize, n: i64) -> usize
 }
 
 // The number of an answer, a refusal or not.
-fn number_of(answer: Answer) -> i64
+pub fn number_of(answer: Answer) -> i64
     ensures { λ r. ⌜ r ≡ said answer .number ⌝ }
 {
     match answer {
