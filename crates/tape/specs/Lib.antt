@@ -1,0 +1,4 @@
+pub mod Block
+pub mod Reader
+pub mod Writing
+pub mod Form
