@@ -1,0 +1,5 @@
+pub mod Same
+pub mod Runs
+pub mod Differs
+pub mod Printed
+pub mod Replays
