@@ -1,4 +1,4 @@
--- What a script hands to C is the output of all that C handed over, and it ends nowhere else than it should. Assumes nothing.
+-- What a program hands to C is the output of all that C handed over, and it ends nowhere else than it should. Assumes nothing.
 use mathlib.Core.Path.{_≡_, refl, ap, sym, subst, _∙_}
 use mathlib.Core.Bool.{Bool, true, false, _&&_}
 use mathlib.Core.List.{List, [], _∷_, _++_, append-assoc, append-nil}
@@ -9,10 +9,13 @@ use lib.Dec.{ltb}
 use lib.ListN.{length, take}
 use lib.Seq.{take-length}
 use borrow.Author.Tests.{ltb-false}
-use Rattle.script.specs.Output.{title, output}
-use Rattle.script.specs.Blocks.{Served, start, more}
-use Rattle.script.proofs.Blocks.{in-blocks}
-use Rattle.console.specs.declared.Standing.{Standing}
+use Rattle.pieces.specs.Program.{output}
+use Rattle.pieces.specs.Reads.{at-start, read}
+use Rattle.pieces.proofs.Parts.{none-read, next-read, whole-output}
+use Rattle.programs.specs.declared.Program.{Program}
+use Rattle.programs.specs.Programs.{model, Desk, Stands}
+use Rattle.programs.proofs.Fresh.{starts}
+use Rattle.console.specs.declared.Between.{Between}
 use Rattle.console.specs.declared.Ending.{Ending}
 use Rattle.console.specs.Exchange.{count, came, Answers, taken, Exchanges, none, one-more, most-exchanges, Ran, input, all-came, Stopped, untitled, no-byte, not-taken}
 use Rattle.console.proofs.Exchanges.{came-length}
@@ -35,17 +38,20 @@ came-more : (answers : List Answers) (a : Answers) → all-came (answers ++ (a �
 unfolding all-came
 came-more = both (λ a. came (a .got) (a .block)) all-came refl (λ a later. refl)
 
--- Exchanges are blocks that are served.
-served : {titled : Bool} {answers : List Answers} {at : Standing} {w line text : List ℕ} → Exchanges titled answers at w line text → Served (input answers) w line (at .begun) text
+-- Exchanges read all that they took, from the start on.
+served : {p : Program} {titled : Bool} {answers : List Answers} {at : Between} {d : Desk} {text : List ℕ} → Exchanges p titled answers at d text
+    → Stands p d (read (model p) (input answers) (at-start (model p)) .place) × (text ≡ read (model p) (input answers) (at-start (model p)) .text)
 unfolding input
-served (none e l) = start e
-served (one-more {answers} {next = next} {v = v} {line′ = line′} {text} {block} so-far further e) =
-    subst (λ (x : List ℕ). Served x v line′ (next .begun) (text ++ e .text)) (sym (input-more answers _))
-    (more (take (e .read) (came (e .got) block)) (e .text) (served so-far) (e .reads))
+served {p} (none {block = block} {piece} e l) = none-read (model p) Desk (Stands p) _ (at-start (model p)) (starts p e block piece)
+served {p} (one-more {answers} {d′ = d′} {text} {block} so-far further e) =
+    subst (λ (i : List ℕ). Stands p d′ (read (model p) i (at-start (model p)) .place) × (text ++ e .text ≡ read (model p) i (at-start (model p)) .text)) (sym (input-more answers _))
+    (next-read (model p) Desk (Stands p) (input answers) (take (e .read) (came (e .got) block)) (at-start (model p)) (served so-far) (e .reads))
 
--- **all-printed**: what a script is to print, the title first and the last line last, is the output of all bytes that were read. So it is what is printed, if C is handed these texts and takes all of them.
-pub all-printed : {r : Ending} (h : Ran r) → title ++ (h .text ++ take (r .printed) (r .paper)) ≡ output (input (h .answers))
-all-printed h = in-blocks (served (h .exchanges)) (h .last)
+-- **all-printed**: what a program is to print, the title first and the end last, is the output of all bytes that were read. So it is what is printed, if C is handed these texts and takes all of them.
+pub all-printed : {p : Program} {r : Ending} (h : Ran p r) → model p .title ++ (h .text ++ take (r .printed) (r .paper)) ≡ output (model p) (input (h .answers))
+all-printed {p} {r} h =
+    let s = served (h .exchanges) in
+    (λ i. model p .title ++ (s .1 i ++ h .last (read (model p) (input (h .answers)) (at-start (model p)) .place) (s .0) i)) ∙ whole-output (model p) (input (h .answers))
 
 -- C took all that it was handed, in every exchange.
 abbrev pub TookAll : List Answers → Type 0
@@ -56,7 +62,7 @@ took-last : (answers : List Answers) (a : Answers) → TookAll (answers ++ (a �
 took-last [] a t = (tt, t .0)
 took-last (b ∷ answers) a t = let h = took-last answers a (t .1) in ((t .0, h .0), h .1)
 
-whole-read : {titled : Bool} {answers : List Answers} {at : Standing} {w line text : List ℕ} → Exchanges titled answers at w line text → TookAll answers → input answers ≡ all-came answers
+whole-read : {p : Program} {titled : Bool} {answers : List Answers} {at : Between} {d : Desk} {text : List ℕ} → Exchanges p titled answers at d text → TookAll answers → input answers ≡ all-came answers
 unfolding input all-came
 whole-read (none e l) t = refl
 whole-read (one-more {answers} {block = block} so-far further e) t =
@@ -66,7 +72,7 @@ whole-read (one-more {answers} {block = block} so-far further e) t =
     input-more answers _ ∙ (λ i. whole-read so-far (h .0) i ++ all i) ∙ sym (came-more answers _)
 
 -- **all-read**: where C took all that it was handed, every byte that came was read.
-pub all-read : {r : Ending} (h : Ran r) → TookAll (h .answers) → input (h .answers) ≡ all-came (h .answers)
+pub all-read : {p : Program} {r : Ending} (h : Ran p r) → TookAll (h .answers) → input (h .answers) ≡ all-came (h .answers)
 all-read h t = whole-read (h .exchanges) t
 
 -- No exchange follows the last one.
@@ -75,11 +81,11 @@ at-last : {titled : Bool} (before : List Answers) (a : Answers) (t : Bool) → l
 at-last before a false nothing w = no-byte before a (let l = ltb-false 0 (count (a .got) (a .block)) nothing in omega arith)
 at-last before a true something w = not-taken before a w
 
-why : {titled : Bool} {answers : List Answers} {at : Standing} {w line text : List ℕ} → Exchanges titled answers at w line text → at .further ≡ false
+why : {p : Program} {titled : Bool} {answers : List Answers} {at : Between} {d : Desk} {text : List ℕ} → Exchanges p titled answers at d text → at .further ≡ false
     → Stopped titled answers
 why (none e l) f = untitled f
 why (one-more {answers} so-far further e) f = at-last answers _ _ refl (sym (e .further) ∙ f)
 
--- **stops**: a script ends only where no byte came or C did not take all that it was handed, or after 2^64 - 1 exchanges.
-pub stops : {r : Ending} (h : Ran r) → Stopped (h .titled) (h .answers) ⊎ (length (h .answers) ≡ most-exchanges)
+-- **stops**: a program ends only where no byte came or C did not take all that it was handed, or after 2^64 - 1 exchanges.
+pub stops : {p : Program} {r : Ending} (h : Ran p r) → Stopped (h .titled) (h .answers) ⊎ (length (h .answers) ≡ most-exchanges)
 stops h = ⊎-map (why (h .exchanges)) (λ e. e) (h .over)

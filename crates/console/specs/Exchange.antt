@@ -1,4 +1,4 @@
--- One exchange with C, and a script as exchanges one behind the other. No contract can say what C does: its answers are named here, and the rest follows from them. Assumes nothing.
+-- One exchange with C, and a program as exchanges one behind the other. No contract can say what C does: its answers are named here, and the rest follows from them. Assumes nothing.
 use mathlib.Core.Path.{_≡_}
 use mathlib.Core.Bool.{Bool, true, false, _&&_}
 use mathlib.Core.List.{List, [], _∷_, _++_}
@@ -9,10 +9,10 @@ use lib.IntN.{ℤ}
 use lib.ListN.{length, take}
 use Rattle.io.specs.Counts.{clamped}
 use Rattle.kernel.specs.Fresh.{fresh-words}
-use Rattle.script.specs.Output.{title}
-use Rattle.script.specs.Blocks.{Reads, Ends}
+use Rattle.programs.specs.declared.Program.{Program}
+use Rattle.programs.specs.Programs.{model, Desk, start, desk, Reads, Ends}
 use Rattle.console.specs.declared.Response.{Response}
-use Rattle.console.specs.declared.Standing.{Standing}
+use Rattle.console.specs.declared.Between.{Between}
 use Rattle.console.specs.declared.Ending.{Ending}
 
 -- No more bytes are read at once.
@@ -29,17 +29,17 @@ came got block = take (count got block) block
 
 -- ---- what is made of C's answers
 
--- The bytes were read from where the script stood on: all of them, where C took all that it was handed. The text is what they print, and C was handed as many bytes. That those were the text's is read in `respond`: no contract says what C is handed.
-pub record Responds (bytes w line : List ℕ) (begun : ℕ) (v line′ : List ℕ) (r : Response) : Type 0 where
+-- The bytes were read from where the program stood on: all of them, where C took all that it was handed. The text is what they print, and C was handed as many bytes. That those were the text's is read in `respond`: no contract says what C is handed.
+pub record Responds (p : Program) (bytes : List ℕ) (d d′ : Desk) (r : Response) : Type 0 where
   pub text : List ℕ
   pub within : r .read ≤ length bytes
-  pub reads : Reads (take (r .read) bytes) w line begun v line′ (r .begun) text
+  pub reads : Reads p (take (r .read) bytes) d d′ text
   pub handed : r .printed ≡ length text
   pub all : r .whole ≡ true → r .read ≡ length bytes
 
--- The script stands where the bytes left it, and a further exchange follows exactly where a byte came and C took all that it was handed.
-abbrev pub stands : (came : ℕ) → Response → Standing
-stands came r = record { begun = r .begun; printed = r .printed; further = ltb 0 came && r .whole }
+-- The program stands where the bytes left it, and a further exchange follows exactly where a byte came and C took all that it was handed.
+abbrev pub stands : (came : ℕ) → Response → Between
+stands came r = record { at = r .at; printed = r .printed; further = ltb 0 came && r .whole }
 
 -- ---- the exchanges
 
@@ -54,40 +54,41 @@ pub record Answers : Type 0 where
 abbrev pub taken : Answers → List ℕ
 taken a = take (a .read) (came (a .got) (a .block))
 
--- One exchange, from where the script stood to where it stands next, with these answers: the text is what the bytes that were read print, and C was handed as many bytes.
-pub record Exchange (at : Standing) (w line : List ℕ) (next : Standing) (v line′ block : List ℕ) : Type 0 where
+-- One exchange, from one desk to the next, with these answers: the text is what the bytes that were read print, and C was handed as many bytes.
+pub record Exchange (p : Program) (d : Desk) (next : Between) (d′ : Desk) (block : List ℕ) : Type 0 where
   pub got : ℤ
   pub whole : Bool
   pub read : ℕ
   pub text : List ℕ
   pub within : read ≤ count got block
-  pub reads : Reads (take read (came got block)) w line (at .begun) v line′ (next .begun) text
+  pub reads : Reads p (take read (came got block)) d d′ text
   pub handed : next .printed ≡ length text
   pub all : whole ≡ true → read ≡ count got block
   pub further : next .further ≡ ltb 0 (count got block) && whole
 
--- Exchange behind exchange, the oldest first, from the fresh words, no line and the title on. The first follows if C took all of the title, each other if the one before it says so, and from where that one left off. The text is all that was to be printed in them.
-pub data Exchanges (titled : Bool) : List Answers → Standing → (w line text : List ℕ) → Type 0 where
-  none : {w line : List ℕ} {n : ℕ} → w ≡ fresh-words → n ≡ length title → Exchanges titled [] (record { begun = 0; printed = n; further = titled }) w line []
-  one-more : {answers : List Answers} {at next : Standing} {w v line line′ text block : List ℕ} → Exchanges titled answers at w line text → at .further ≡ true
-      → (e : Exchange at w line next v line′ block)
-      → Exchanges titled (answers ++ (record { got = e .got; block = block; whole = e .whole; read = e .read } ∷ [])) next v line′ (text ++ e .text)
+-- Exchange behind exchange, the oldest first, from the fresh words, no piece and the title on. The first follows if C took all of the title, each other if the one before it says so, and from where that one left off. The text is all that was to be printed in them.
+pub data Exchanges (p : Program) (titled : Bool) : List Answers → Between → Desk → (text : List ℕ) → Type 0 where
+  none : {w block piece : List ℕ} {n : ℕ} → w ≡ fresh-words → n ≡ length (model p .title)
+      → Exchanges p titled [] (record { at = start; printed = n; further = titled }) (desk w block start piece) []
+  one-more : {answers : List Answers} {at next : Between} {d d′ : Desk} {text block : List ℕ} → Exchanges p titled answers at d text → at .further ≡ true
+      → (e : Exchange p d next d′ block)
+      → Exchanges p titled (answers ++ (record { got = e .got; block = block; whole = e .whole; read = e .read } ∷ [])) next d′ (text ++ e .text)
 
--- No script has more exchanges.
+-- No program has more exchanges.
 abbrev pub most-exchanges : ℕ
 most-exchanges = 18446744073709551615
 
--- A whole script: C's answers to the title and in each exchange, the words then, and all that was to be printed. It ended where no exchange follows, and printed last what is due at the end of the input.
-pub record Ran (r : Ending) : Type 0 where
+-- A whole program: C's answers to the title and in each exchange, what was kept then, and all that was to be printed. It ended where no exchange follows, and printed last what is due at the end of the input.
+pub record Ran (p : Program) (r : Ending) : Type 0 where
   pub titled : Bool
   pub answers : List Answers
-  pub words : List ℕ
+  pub left : Desk
   pub text : List ℕ
-  pub exchanges : Exchanges titled answers (r .at) words (r .line) text
+  pub exchanges : Exchanges p titled answers (r .at) left text
   pub over : (r .at .further ≡ false) ⊎ (length answers ≡ most-exchanges)
-  pub last : Ends words (r .line) (r .at .begun) (take (r .printed) (r .paper))
+  pub last : Ends p left (take (r .printed) (r .paper))
 
--- ---- what holds of every script
+-- ---- what holds of every program
 
 -- All bytes that were read, and all that came.
 unfoldable pub input : List Answers → List ℕ

@@ -3,6 +3,7 @@ use mathlib.Core.Path.{_≡_, ap, sym, subst, _∙_}
 use mathlib.Core.List.{List}
 use mathlib.Core.Option.{Option}
 use Prim.Native.Nat.{ℕ}
+use Rattle.kernel.specs.Kernel.{Kernel}
 use Rattle.kernel.specs.Calls.{Call}
 use Rattle.kernel.specs.Seen.{seen}
 use Rattle.kernel.specs.Sound.{Sound}
@@ -10,13 +11,14 @@ use Rattle.kernel.specs.Promise.{Given}
 use Rattle.laws_promises.proofs.Answers.{no-loan, call-sound, one-outcome}
 use Rattle.laws_promises.proofs.SeenAs.{as-step}
 use Rattle.text.specs.Text.{printed}
-use Rattle.script.specs.Output.{Turned, by-call}
+use Rattle.pieces.specs.Program.{Turned}
+use Rattle.script.specs.Output.{by-call}
 use Rattle.script.specs.Step.{told, Stepped, called, unknown}
 
 -- The code has come to the words v and printed this text, as the model's turn does.
-pub record Turns (x : Turned) (v text : List ℕ) : Type 0 where
+pub record Turns (x : Turned Kernel) (v text : List ℕ) : Type 0 where
   pub sound : Sound v
-  pub kernel : seen v ≡ x .kernel
+  pub kernel : seen v ≡ x .state
   pub prints : text ≡ x .text
 
 -- **as-turn**: on sound words, a step leaves sound ones, and it does and prints what the model's turn does.

@@ -1,4 +1,3 @@
 pub mod Output
 pub mod Step
-pub mod Blocks
 pub mod Document

@@ -6,4 +6,4 @@ use Rattle.console.proofs.onward.Tie as tie
 
 pub onward-spec : {M : Type 1} → statement M
 onward-spec =
-    tie.close (tie.spec (λ c. rw (lt-ltb 0 (c .before .args .came) (omega arith))) (λ c. rw (le-ltb 0 (c .before .args .came) (omega arith))))
+    tie.close (tie.spec (λ c. rw (lt-ltb 0 (c .before .before .args .came) (omega arith))) (λ c. rw (le-ltb 0 (c .before .before .args .came) (omega arith))))

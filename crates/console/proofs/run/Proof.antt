@@ -8,8 +8,8 @@ use Rattle.console.specs.Exchange.{longest-block}
 use Rattle.console.proofs.run.Statement.{statement}
 use Rattle.console.proofs.run.Tie as tie
 
-cut : (c : tie.After-serve-arg2) → longest-block ≡ length (take longest-block (c .before .before .before .args .block .now))
-cut c = front longest-block (c .before .before .before .args .block .now) (search needs)
+cut : (c : tie.After-serve-arg2) → longest-block ≡ length (take longest-block (c .before .before .before .args .input .now))
+cut c = front longest-block (c .before .before .before .args .input .now) (search needs)
 
 pub run-spec : {M : Type 1} → statement M
 run-spec =

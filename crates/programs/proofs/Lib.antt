@@ -1,0 +1,6 @@
+pub mod Fresh
+pub mod Turns
+pub mod Bytes
+pub mod Feeding
+pub mod Ending
+pub mod Ends
