@@ -17,7 +17,7 @@ use Rattle.programs.specs.Programs.{model, Desk, Stands}
 use Rattle.programs.proofs.Fresh.{starts}
 use Rattle.console.specs.declared.Between.{Between}
 use Rattle.console.specs.declared.Ending.{Ending}
-use Rattle.console.specs.Exchange.{count, came, Answers, taken, Exchanges, none, one-more, most-exchanges, Ran, input, all-came, Stopped, untitled, no-byte, not-taken}
+use Rattle.console.specs.Exchange.{count, came, Answers, taken, Exchanges, none, one-more, most-exchanges, Ran, input, all-came, printed, Stopped, untitled, no-byte, not-taken}
 use Rattle.console.proofs.Exchanges.{came-length}
 
 -- What answers say, put one behind the other.
@@ -48,7 +48,7 @@ served {p} (one-more {answers} {d′ = d′} {text} {block} so-far further e) =
     (next-read (model p) Desk (Stands p) (input answers) (take (e .read) (came (e .got) block)) (at-start (model p)) (served so-far) (e .reads))
 
 -- **all-printed**: what a program is to print, the title first and the end last, is the output of all bytes that were read. So it is what is printed, if C is handed these texts and takes all of them.
-pub all-printed : {p : Program} {r : Ending} (h : Ran p r) → model p .title ++ (h .text ++ take (r .printed) (r .paper)) ≡ output (model p) (input (h .answers))
+pub all-printed : {p : Program} {r : Ending} (h : Ran p r) → printed h ≡ output (model p) (input (h .answers))
 all-printed {p} {r} h =
     let s = served (h .exchanges) in
     (λ i. model p .title ++ (s .1 i ++ h .last (read (model p) (input (h .answers)) (at-start (model p)) .place) (s .0) i)) ∙ whole-output (model p) (input (h .answers))

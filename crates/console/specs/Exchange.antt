@@ -99,6 +99,10 @@ unfoldable pub all-came : List Answers → List ℕ
 all-came [] = []
 all-came (a ∷ answers) = came (a .got) (a .block) ++ all-came answers
 
+-- All that is to be printed: the title first, and what is due at the end of the input last.
+abbrev pub printed : {p : Program} {r : Ending} → Ran p r → List ℕ
+printed {p} {r} h = model p .title ++ (h .text ++ take (r .printed) (r .paper))
+
 -- Why no exchange follows: C did not take all of the title; or in the last one no byte came, or C did not take all that it was handed.
 pub data Stopped (titled : Bool) : List Answers → Type 0 where
   untitled : titled ≡ false → Stopped titled []

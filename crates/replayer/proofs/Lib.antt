@@ -3,3 +3,4 @@ pub mod Runs
 pub mod Differs
 pub mod Printed
 pub mod Replays
+pub mod Verdict
