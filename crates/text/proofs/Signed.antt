@@ -1,5 +1,5 @@
 -- A signed number, below 0 and not: what the code asks of it, and its text. Assumes nothing.
-use mathlib.Core.Path.{_≡_, ap}
+use mathlib.Core.Path.{_≡_, refl, ap}
 use mathlib.Core.Bool.{true, false}
 use mathlib.Core.List.{_++_}
 use Prim.Native.Nat.{ℕ, suc, _+_, _-_, _^_, _≤_, _<_}
@@ -30,11 +30,14 @@ unsigned : {z : ℤ} {x : ℕ} → z ≡ pos x → x < 2 ^ 63 → Unsigned z
 unsigned {z} {x} e l = rw e (tt, fits-under w64 x (2 ^ 63) l tt)
 
 -- -1 - z, read off its bits.
-abbrev below-0 : ℤ → ℤ
+abbrev pub below-0 : ℤ → ℤ
 below-0 z = toZ w64 (ofZ w64 (negsuc 0 -ℤ z))
 
 -- n, which the code reads off its bits as z, is below 0.
 pub record Below (n z : ℤ) : Type 0 where
+  pub left : ℕ
+  pub is : n ≡ negsuc left
+  pub read : below-0 z ≡ pos left
   pub sub : SFits w64 (negsuc 0 -ℤ z)
   pub cast : Unsigned (below-0 z)
   pub add : Fits w64 (natAbs (below-0 z) + 1)
@@ -47,13 +50,24 @@ below (negsuc x) {z} e f t =
     let back : suc x - 1 ≡ x = omega arith in
     let is : negsuc 0 -ℤ z ≡ pos x = rw (e, le-ltb (suc x) 1 (omega arith)) (ap pos back) in
     let read : below-0 z ≡ pos x = rw is (toZ-ofZ {w = w64} (sfits-of l)) in
-    record { sub = rw is (sfits-of l); cast = unsigned read l; add = rw read (fits-under w64 (x + 1) (2 ^ 64) (omega arith) tt); text = rw (read, add-one) }
+    record {
+      left = x;
+      is = refl;
+      read = read;
+      sub = rw is (sfits-of l);
+      cast = unsigned read l;
+      add = rw read (fits-under w64 (x + 1) (2 ^ 64) (omega arith) tt);
+      text = rw (read, add-one);
+    }
 
 -- And where it is not.
 pub record Above (n z : ℤ) : Type 0 where
+  pub above : ℕ
+  pub is : n ≡ pos above
+  pub read : z ≡ pos above
   pub cast : Unsigned z
   pub text : number n ≡ decimal (natAbs z)
 
 pub above : (n : ℤ) {z : ℤ} → z ≡ n → SFits w64 n → ltZ z (pos 0) ≡ false → Above n z
-above (pos x) e f t = record { cast = unsigned e (f .sfits); text = rw e }
+above (pos x) e f t = record { above = x; is = refl; read = e; cast = unsigned e (f .sfits); text = rw e }
 above (negsuc x) e f t = absurd (let s = rw e at t in let w : _≡_ {A = ℕ} 0 1 = cc in omega arith)

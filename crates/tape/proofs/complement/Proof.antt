@@ -1,14 +1,18 @@
 -- Below 0 and not. Assumes nothing.
+use mir.Facts.{toZ-ofZ}
+use mir.Syntax.{w64}
+use mir.Val.{toZ, ofZ}
 use borrow.Author.Needs.{needs}
-use Rattle.tape.proofs.Sign.{Below, below, Above, above}
+use Rattle.text.proofs.Signed.{Below, below, Above, above}
+use Rattle.tape.proofs.Sign.{below-says, above-says}
 use Rattle.tape.proofs.complement.Statement.{statement}
 use Rattle.tape.proofs.complement.Tie as tie
 
-negative : (c : tie.Then1) → Below (c .before .args .n)
-negative c = below (c .before .args .n) (c .before .fits .n) (c .if1 .taken)
+negative : (c : tie.Then1) → let n = c .before .args .n in Below n (toZ w64 (ofZ w64 n))
+negative c = let k = c .before in below (k .args .n) (toZ-ofZ {w = w64} (k .fits .n)) (k .fits .n) (c .if1 .taken)
 
-positive : (c : tie.Else1) → Above (c .before .args .n)
-positive c = above (c .before .args .n) (c .before .fits .n) (c .if1 .left)
+positive : (c : tie.Else1) → let n = c .before .args .n in Above n (toZ w64 (ofZ w64 n))
+positive c = let k = c .before in above (k .args .n) (toZ-ofZ {w = w64} (k .fits .n)) (k .fits .n) (c .if1 .left)
 
 pub complement-spec : {M : Type 1} → statement M
 complement-spec =
@@ -20,5 +24,5 @@ complement-spec =
     (λ c. search needs)
     (λ c. positive c .cast)
     (λ c. search needs)
-    (λ c. negative c .says)
-    (λ c. positive c .says))
+    (λ c. below-says (negative c))
+    (λ c. above-says (positive c)))
