@@ -5,6 +5,7 @@ mod calls;
 mod cases;
 mod check;
 mod cost;
+mod damage;
 mod flips;
 mod full;
 mod interleaved;
@@ -17,6 +18,7 @@ mod random;
 mod script;
 mod sound;
 mod states;
+mod tape;
 mod verdict;
 mod words;
 
@@ -29,12 +31,16 @@ use std::process::ExitCode;
 const USAGE: &str = "usage: baseline                          the script program, on standard input
        baseline packed RUNS              a script's calls alone, timed
        baseline verdict                  the soundness test, timed
-       baseline make KIND LINES SEED     a script: mixed, ticks, refused or odd
+       baseline make KIND LINES SEED     a script: mixed, ticks, refused, odd or shift
        baseline cost PROGRAM ..          runs a program, and says its CPU time in nanoseconds on standard error
        baseline cases                    a file of cases on standard input, as the test programs print it
        baseline interleaved              what test_interleaved prints
        baseline words                    states as their words, in binary
-       baseline flips                    such states on standard input: which are sound, how many one bit away, and what the calls give on those";
+       baseline flips                    such states on standard input: which are sound, how many one bit away, and what the calls give on those
+       baseline record                   a script on standard input: its tape, in binary
+       baseline tape                     a tape on standard input: a line for each block
+       baseline replay                   a tape on standard input: the index of the first answer that differs, or none
+       baseline damaged KIND             a tape on standard input, damaged: changed, turn, bytes, mended or random SEED";
 
 fn main() -> ExitCode {
     let arguments: Vec<String> = std::env::args().skip(1).collect();
@@ -72,6 +78,13 @@ fn mode(words: &[&str]) -> Option<io::Result<()>> {
         ["interleaved"] => output().and_then(|output| interleaved::run(BufWriter::new(output))),
         ["words"] => output().and_then(|output| states::run(BufWriter::new(output))),
         ["flips"] => output().and_then(|output| flips::run(input, BufWriter::new(output))),
+        ["record"] => output().and_then(|output| tape::record(input, BufWriter::new(output))),
+        ["tape"] => output().and_then(|output| tape::list(input, BufWriter::new(output))),
+        ["replay"] => output().and_then(|output| tape::replay(input, output)),
+        ["damaged", kind @ ..] => {
+            let kind = damage::Kind::named(kind)?;
+            output().and_then(|output| damage::run(kind, input, BufWriter::new(output)))
+        }
         _ => return None,
     })
 }

@@ -19,6 +19,8 @@ pub enum Kind {
     Refused,
     /// As mixed, with odd lines between; the kernel stops near the end, and the last line has no newline.
     Odd,
+    /// As odd, with more ticks, and few odd lines, none of them much too long.
+    Shift,
 }
 
 impl Kind {
@@ -28,6 +30,7 @@ impl Kind {
             "ticks" => Some(Kind::Ticks),
             "refused" => Some(Kind::Refused),
             "odd" => Some(Kind::Odd),
+            "shift" => Some(Kind::Shift),
             _ => None,
         }
     }
@@ -54,10 +57,11 @@ pub fn run(kind: Kind, lines: u64, seed: u64, mut output: impl Write) -> io::Res
             Kind::Mixed => maker.mixed(10, 25),
             Kind::Ticks => maker.mixed(1, 91),
             Kind::Refused => maker.refused(),
-            Kind::Odd => maker.odd(line, lines),
+            Kind::Odd => maker.odd(line, lines, &ODD),
+            Kind::Shift => maker.odd(line, lines, &SHIFT),
         };
         output.write_all(&text)?;
-        if kind != Kind::Odd || line + 1 < lines {
+        if !matches!(kind, Kind::Odd | Kind::Shift) || line + 1 < lines {
             output.write_all(b"\n")?;
         }
         maker.play(&text);
@@ -66,6 +70,28 @@ pub fn run(kind: Kind, lines: u64, seed: u64, mut output: impl Write) -> io::Res
     maker.summary(lines);
     Ok(())
 }
+
+/// What a script with odd lines is made of, in hundredths; and how long an odd line is at most.
+struct Shares {
+    refused: u64,
+    ticks: u64,
+    calls: u64,
+    longest: usize,
+}
+
+const ODD: Shares = Shares {
+    refused: 20,
+    ticks: 20,
+    calls: 70,
+    longest: usize::MAX,
+};
+
+const SHIFT: Shares = Shares {
+    refused: 10,
+    ticks: 40,
+    calls: 97,
+    longest: 80,
+};
 
 struct Maker {
     kernel: Kernel,
@@ -121,17 +147,18 @@ impl Maker {
         text(call.unwrap_or_else(|| self.refused_call()))
     }
 
-    fn odd(&mut self, line: u64, lines: u64) -> Vec<u8> {
+    fn odd(&mut self, line: u64, lines: u64, shares: &Shares) -> Vec<u8> {
         // In the last lines a HARD task that runs goes on until it is late.
         let last = line > lines - lines / 50;
         if last && self.kernel.stop == Stop::Going && self.hard_runs() {
             return text(Call::Tick);
         }
-        let call = self.mixed(20, 20);
-        if self.random.chance(70) {
+        let call = self.mixed(shares.refused, shares.ticks);
+        if self.random.chance(shares.calls) {
             return call;
         }
-        let line = odd::line(&call, &mut self.random);
+        let mut line = odd::line(&call, &mut self.random);
+        line.truncate(shares.longest);
         if self.stops(&line) {
             return call;
         }
