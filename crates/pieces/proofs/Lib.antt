@@ -1,3 +1,4 @@
 pub mod Begun
 pub mod Parts
 pub mod Blocks
+pub mod Whole
