@@ -5,7 +5,7 @@ use Prim.Native.Nat.{ℕ, _+_, _≤_, _<_}
 use native.Mathlib.Decide.{decLt}
 use native.Mathlib.Numerals.{add-one}
 use native.Mathlib.Omega.{arith}
-use lib.ListN.{length, set, take, length-append}
+use lib.ListN.{length, set, length-append}
 use lib.Seq.{take-suc-set, length-take-le}
 use Rattle.pieces.specs.Program.{longest, Cut, lines, blocks}
 use Rattle.pieces.specs.Reads.{InBuffer, Begun, Longer}

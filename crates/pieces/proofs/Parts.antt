@@ -1,9 +1,9 @@
 -- What is read in parts is read as one; and it is what the pieces print. Assumes nothing.
 use mathlib.Core.Path.{_≡_, refl, ap, sym, subst, _∙_}
 use mathlib.Core.Bool.{Bool, true, false, cond}
-use mathlib.Core.List.{List, [], _∷_, _++_, append-assoc, append-nil}
+use mathlib.Core.List.{List, [], _∷_, _++_, append-assoc}
 use Prim.Native.Nat.{ℕ}
-use Rattle.pieces.specs.Program.{ends, ended, last, pieces-from, Program, prints, output}
+use Rattle.pieces.specs.Program.{ends, ended, pieces-from, Program, prints, output}
 use Rattle.pieces.specs.Reads.{Place, Read, at-start, piece-ends, goes-on, byte, read, rest, Reads}
 
 -- ---- parts

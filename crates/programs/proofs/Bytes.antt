@@ -1,11 +1,11 @@
 -- One byte: it ends the piece that is begun, or goes on with it. Assumes nothing.
 use mathlib.Core.Path.{_≡_, refl, ap, sym, subst, _∙_}
-use mathlib.Core.Bool.{Bool, true, false, cond}
+use mathlib.Core.Bool.{true, false}
 use mathlib.Core.List.{List, [], _∷_, _++_, append-nil}
 use Prim.Native.Nat.{ℕ, _+_, _≤_, _<_}
 use native.Mathlib.Omega.{arith}
 use native.Mathlib.Decide.{decLt}
-use lib.ListN.{length, take, length-append}
+use lib.ListN.{length, length-append}
 use lib.Seq.{length-take-le}
 use borrow.Author.Tests.{eq-eqb, ne-eqb}
 use Rattle.text.proofs.Follows.{nothing}
@@ -15,7 +15,7 @@ use Rattle.pieces.proofs.Begun.{none-begun}
 use Rattle.programs.specs.declared.Program.{Program}
 use Rattle.programs.specs.declared.Program.the-variants.{Dick, Record, Tape, Replay}
 use Rattle.programs.specs.declared.Standing.{Standing}
-use Rattle.programs.specs.Programs.{model, Kept, Keeps, Ready, Desk, Stands, with-begun, kept, desk, Reads, Ended, Fed}
+use Rattle.programs.specs.Programs.{model, Keeps, Ready, Desk, Stands, with-begun, kept, desk, Reads, Ended, Fed}
 
 -- ---- how a byte meets the piece that is begun
 

@@ -1,14 +1,14 @@
 -- The end of the input. Assumes nothing.
-use mathlib.Core.Path.{_≡_, refl, ap, sym, subst, _∙_}
+use mathlib.Core.Path.{_≡_, refl, ap, sym, _∙_}
 use mathlib.Core.List.{List, [], _∷_, _++_}
-use Prim.Native.Nat.{ℕ, _≤_, _<_}
+use Prim.Native.Nat.{ℕ, _<_}
 use native.Mathlib.Omega.{arith}
 use lib.ListN.{length, take}
 use Rattle.pieces.specs.Program.{longest, last, Turned, prints}
-use Rattle.pieces.specs.Reads.{Place, Finished}
+use Rattle.pieces.specs.Reads.{Finished}
 use Rattle.pieces.proofs.Begun.{as-long}
 use Rattle.programs.specs.declared.Program.{Program}
-use Rattle.programs.specs.Programs.{model, Kept, Keeps, Desk, Stands, Ends, Ended}
+use Rattle.programs.specs.Programs.{model, Kept, Keeps, Desk, Ends, Ended}
 
 -- No piece is begun.
 pub none-ends : {p : Program} (d : Desk) {paper paper′ : List ℕ} {n : ℕ} → d .kept .at .begun ≡ 0 → Finished (model p) Kept (Keeps p) (d .kept) paper 0 paper′ n → Ends p d (take n paper′)

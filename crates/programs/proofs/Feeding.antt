@@ -1,6 +1,6 @@
 -- A part of the input that is being read, byte by byte. Assumes nothing.
 use mathlib.Core.Path.{_≡_, refl, sym, subst₂, _∙_, ap}
-use mathlib.Core.List.{List, [], _∷_, _++_}
+use mathlib.Core.List.{List, [], _∷_}
 use Prim.Native.Nat.{ℕ, _+_, _≤_, _<_}
 use native.Mathlib.Numerals.{add-one}
 use native.Mathlib.Omega.{arith}

@@ -12,7 +12,7 @@ use Rattle.language.specs.declared.Line.the-variants.{NoCall}
 use Rattle.language.specs.Meaning.{call-of, sought, meaning}
 use Rattle.language.proofs.Length.{long-line}
 use Rattle.text.proofs.Follows.{nothing}
-use Rattle.pieces.specs.Program.{longest, Cut, lines, blocks, Turned}
+use Rattle.pieces.specs.Program.{longest, lines}
 use Rattle.pieces.specs.Reads.{Taken}
 use Rattle.script.specs.Output as Dick
 use Rattle.script.specs.Step.{Shown}

@@ -1,24 +1,20 @@
 -- What a line comes to in the code is what it comes to in the model. Assumes nothing.
 use mathlib.Core.Path.{_≡_, refl, ap, sym, subst, _∙_}
-use mathlib.Core.Bool.{Bool, true, false, cond}
 use mathlib.Core.List.{List, [], _∷_, _++_, append-nil}
 use Prim.Native.Nat.{ℕ, _+_, _≤_, _<_}
 use native.Mathlib.Omega.{arith}
-use lib.Dec.{eqb}
-use lib.ListN.{length, drop, length-append, drop-of-length-le}
+use lib.ListN.{length, length-append, drop-of-length-le}
 use borrow.Author.Tests.{eq-eqb, ne-eqb}
 use Rattle.kernel.specs.declared.Answer.{Answer}
-use Rattle.kernel.specs.Kernel.{Kernel}
 use Rattle.kernel.specs.Seen.{seen}
 use Rattle.kernel.specs.Sound.{Sound}
 use Rattle.verbs.specs.declared.Verb.{Verb}
 use Rattle.verbs.specs.Verbs.{verb-of}
-use Rattle.language.specs.declared.Line.{Line}
 use Rattle.language.specs.declared.Line.the-variants.{NoCall, Asks}
 use Rattle.language.specs.Meaning.{meaning}
 use Rattle.text.specs.Text.{Continued}
 use Rattle.text.proofs.Follows.{nothing}
-use Rattle.pieces.specs.Program.{longest, Turned}
+use Rattle.pieces.specs.Program.{Turned}
 use Rattle.pieces.specs.Reads.{Taken, Finished}
 use Rattle.tape.specs.declared.Record.{Record}
 use Rattle.tape.specs.Block.{block-size, most-records, written}
@@ -29,7 +25,7 @@ use Rattle.records.specs.Records.{outcome, record-of}
 use Rattle.records.proofs.Made.{Made}
 use Rattle.recorder.specs.declared.Begun.{Begun}
 use Rattle.recorder.specs.declared.Turned as Code
-use Rattle.recorder.specs.Tape.{next, last-block, Recording, more-recorded, recording, turn, recorder}
+use Rattle.recorder.specs.Tape.{next, last-block, Recording, more-recorded, turn, recorder}
 use Rattle.recorder.specs.Keeps.{Kept, Ready, Keeps, Recorded, put, full}
 
 -- What is kept says the state but for the records themselves.

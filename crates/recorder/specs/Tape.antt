@@ -10,7 +10,7 @@ use Rattle.verbs.specs.Verbs.{verb-of}
 use Rattle.language.specs.declared.Line.{Line}
 use Rattle.language.specs.declared.Line.the-variants.{NoCall, Asks}
 use Rattle.language.specs.Meaning.{meaning}
-use Rattle.pieces.specs.Program.{Cut, lines, pieces, Turned, Program}
+use Rattle.pieces.specs.Program.{lines, pieces, Turned, Program}
 use Rattle.tape.specs.declared.Record.{Record}
 use Rattle.tape.specs.Block.{most-records, four-bytes, written}
 use Rattle.records.specs.Records.{outcome, record-of}

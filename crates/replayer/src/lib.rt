@@ -5,7 +5,7 @@ ghost use Prim.Native.Nat.{ℕ, _+_, _≤_};
 ghost use lib.ListN.{length, drop};
 ghost use Rattle.kernel.specs.Sound.{Sound};
 ghost use Rattle.pieces.specs.Program.{longest};
-ghost use Rattle.pieces.specs.Reads.{Taken, Finished};
+ghost use Rattle.pieces.specs.Reads.{Finished};
 ghost use Rattle.tape.specs.Block.{block-size, most-records, first-at};
 ghost use Rattle.tape.specs.Reader.{records-of};
 ghost use Rattle.replayer.specs.Replay as Replay;

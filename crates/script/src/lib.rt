@@ -1,6 +1,6 @@
 // One step of a script: a line of bytes to a call to a printed line.
 ghost use mathlib.Core.Path.{_≡_};
-ghost use Prim.Native.Nat.{_+_, _≤_, _<_};
+ghost use Prim.Native.Nat.{_+_, _≤_};
 ghost use lib.ListN.{length, take};
 ghost use Rattle.io.specs.Counts.{Counts};
 ghost use Rattle.language.specs.Meaning.{call-of, meaning};

@@ -6,7 +6,7 @@ use Prim.Native.Nat.{ℕ}
 use native.Mathlib.Omega.{arith}
 use borrow.Author.Needs.{needs}
 use Rattle.kernel.proofs.Decided.{yes, no}
-use Rattle.pieces.specs.Program.{Cut, lines, blocks}
+use Rattle.pieces.specs.Program.{lines, blocks}
 use Rattle.programs.specs.declared.Program.{Program}
 use Rattle.programs.specs.Programs.{model}
 use Rattle.programs.proofs.by_lines.Statement.{statement}

@@ -1,5 +1,5 @@
 -- A byte ends the piece that is begun, or goes on with it. Assumes nothing.
-use mathlib.Core.Path.{_≡_, sym, _∙_}
+use mathlib.Core.Path.{sym, _∙_}
 use mathlib.Core.Bool.{false≢true}
 use borrow.Author.Needs.{needs}
 use Rattle.programs.proofs.Bytes.{newline-fed, line-fed, part-fed, block-fed}

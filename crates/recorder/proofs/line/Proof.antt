@@ -1,5 +1,5 @@
 -- The call that a line asks for is made and recorded. Assumes nothing.
-use mathlib.Core.Path.{_≡_, sym, _∙_}
+use mathlib.Core.Path.{sym, _∙_}
 use borrow.Author.Needs.{needs}
 use Rattle.kernel.specs.Answer.{said}
 use Rattle.verbs.specs.Verbs.{verb-of}
