@@ -1,4 +1,6 @@
 // Numbers as bytes, the most significant first, in any width up to four bytes.
+#![tactic(auto)]
+
 ghost use Rattle.std.specs.Prelude.{◌≡◌, ◌+◌, ◌≤◌, length};
 ghost use Rattle.kernel.specs.Channels.{over};
 ghost use Rattle.big_endian.specs.BigEndian as BigEndian;

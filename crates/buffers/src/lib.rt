@@ -1,4 +1,6 @@
 // Channels, sessions, and which buffer is free.
+#![tactic(auto)]
+
 ghost use Rattle.std.specs.Prelude.{◌≡◌, ◌||◌, ◌<◌};
 ghost use Rattle.kernel.specs.Sizes.{task_count, channel_count, most_buffers};
 ghost use Rattle.kernel.specs.Channels as Channels;

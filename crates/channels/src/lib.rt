@@ -1,4 +1,6 @@
 // Open, and what the calls on an open channel share: their first rows, and the place of the buffer that a session holds.
+#![tactic(auto)]
+
 ghost use Rattle.std.specs.Prelude.{◌≡◌, ◌&&◌, [], ◌∷◌, ◌<◌};
 ghost use Rattle.kernel.specs.Sizes.{channel_count, longest_message, fewest_buffers, most_buffers, within};
 ghost use Rattle.kernel.specs.Kernel.{channel, with_channel};

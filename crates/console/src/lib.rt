@@ -1,4 +1,6 @@
 // The programs' exchanges with C: standard input, in blocks, to standard output. Only `exchange` and `print` call C; what is made of its answers is in `respond` and `onward`.
+#![tactic(auto)]
+
 ghost use Rattle.std.specs.Prelude.{◌≡◌, ◌≤◌, length};
 ghost use Rattle.pieces.specs.Program.{longest};
 ghost use Rattle.programs.specs.Programs.{Ready, kept, desk};

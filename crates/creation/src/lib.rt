@@ -1,4 +1,6 @@
 // Create, HARD and NRT.
+#![tactic(auto)]
+
 ghost use Rattle.std.specs.Prelude.{◌≡◌, ◌+◌, ◌≤◌, ltb};
 ghost use Rattle.kernel.specs.declared.Class.TheVariants.{Hard};
 ghost use Rattle.kernel.specs.Sizes.{whole};

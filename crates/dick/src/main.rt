@@ -1,4 +1,6 @@
 // The script program: reads a script from standard input, one call a line, and prints what each call answers.
+#![tactic(auto)]
+
 use programs::Program;
 
 fn main() {

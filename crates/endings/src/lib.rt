@@ -1,4 +1,6 @@
 // End and kill.
+#![tactic(auto)]
+
 ghost use Rattle.std.specs.Prelude.{◌<◌};
 ghost use Rattle.kernel.specs.Sizes.{task_count, channel_count};
 ghost use Rattle.kernel.specs.Kernel.{task, with_sessions};

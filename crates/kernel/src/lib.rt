@@ -1,4 +1,6 @@
 // The state of one controller, with its sizes, its numbers and its fresh kernel, and what a call gives back.
+#![tactic(auto)]
+
 ghost use Rattle.std.specs.Prelude.{◌≡◌, ◌+◌, ◌*◌, ◌≤◌};
 ghost use Rattle.kernel.specs.Status.{status_number, stop_number, waiting, queue_of};
 ghost use Rattle.kernel.specs.Sizes.{fitting};

@@ -1,4 +1,6 @@
 // The language of scripts: a line of bytes to the call that it asks for.
+#![tactic(auto)]
+
 ghost use Rattle.std.specs.Prelude.{◌≡◌};
 ghost use Rattle.language.specs.Meaning as Meaning;
 ghost use Rattle.language.specs.Meaning.{number_of, meaning};

@@ -1,1 +1,2 @@
 // Words and kernels: which words a kernel has. Laws in proofs/; no function.
+#![tactic(auto)]

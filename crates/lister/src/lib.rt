@@ -1,4 +1,6 @@
 // The program `tape`: a line for each block of a tape.
+#![tactic(auto)]
+
 ghost use Rattle.std.specs.Prelude.{◌≡◌, ℕ, ◌+◌, ◌≤◌, length};
 ghost use Rattle.text.specs.Text.{Continued};
 ghost use Rattle.pieces.specs.Program.{longest};

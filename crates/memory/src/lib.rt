@@ -1,4 +1,6 @@
 // The bytes of the message memory: where a buffer starts, what is written, cleared and shown. There is no state in sight.
+#![tactic(auto)]
+
 ghost use Rattle.std.specs.Prelude.{◌≡◌, ◌+◌, ◌≤◌, ◌<◌, length, replicate};
 ghost use Rattle.kernel.specs.Sizes.{channel_count, most_buffers};
 ghost use Rattle.kernel.specs.Channels as Channels;

@@ -1,6 +1,8 @@
 // How long calls take, by timing this program from outside. Standard input has an order, one byte, and behind it a script, of which the first 60,000 bytes
 // and 4,096 lines that are calls are read. `k`: the calls are made 1,000 times from the fresh kernel, behind the soundness test, refusal rows and work alone.
 // `t`: 100 times, with the test before each call.
+#![tactic(auto)]
+
 mod packed;
 mod runs;
 

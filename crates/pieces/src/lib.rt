@@ -1,4 +1,6 @@
 // The piece of an input that is begun, in its buffer.
+#![tactic(auto)]
+
 ghost use Rattle.std.specs.Prelude.{◌≡◌, length};
 ghost use Rattle.pieces.specs.Program as Program;
 ghost use Rattle.pieces.specs.Program.{longest, Cut};

@@ -1,4 +1,6 @@
 // Who runs, in place: dispatch and schedule.
+#![tactic(auto)]
+
 ghost use Rattle.std.specs.Prelude.{◌≡◌, ◌+◌, ◌<◌};
 ghost use Rattle.kernel.specs.Sizes.{task_count};
 ghost use Rattle.kernel.specs.Kernel.{task, period_of, next_period, with_status};

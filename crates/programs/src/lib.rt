@@ -1,4 +1,6 @@
 // The programs: a script is run, or recorded; a tape is listed, or replayed. Each is fed its input in whatever parts it comes, and cut in pieces, lines or blocks, each of which has its turn.
+#![tactic(auto)]
+
 ghost use Rattle.std.specs.Prelude.{◌≡◌, true, ◌↔◌, ◌+◌, ◌≤◌, ◌<◌, length, take};
 ghost use Rattle.io.specs.Counts.{IsPrefixLen};
 ghost use Rattle.pieces.specs.Program.{longest, lines};

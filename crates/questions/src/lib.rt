@@ -1,4 +1,6 @@
 // What the kernel is asked: clock, status, deadline, slack and period. The words stay as they were.
+#![tactic(auto)]
+
 ghost use Rattle.std.specs.Prelude.{◌≡◌, not, ◌||◌, pos, ◌-ℤ◌};
 ghost use Rattle.kernel.specs.Kernel.{task, hard, period_of};
 ghost use Rattle.kernel.specs.Calls as Calls;

@@ -1,4 +1,6 @@
 // Chapter 10's queues, in place: insert, extract and getfirst. But for the fresh kernel, no other code writes a link or a head.
+#![tactic(auto)]
+
 ghost use Rattle.std.specs.Prelude.{◌≡◌, ◌<◌};
 ghost use Rattle.kernel.specs.Sizes.{task_count};
 ghost use Rattle.kernel.specs.Status.{queue_count, queue_of};

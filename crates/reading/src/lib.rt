@@ -1,4 +1,6 @@
 // Begin reading, showing, the screen call and close.
+#![tactic(auto)]
+
 ghost use Rattle.std.specs.Prelude.{◌≡◌, ◌≤◌, length};
 ghost use Rattle.kernel.specs.Kernel.{channel};
 ghost use Rattle.kernel.specs.Channels as Channels;

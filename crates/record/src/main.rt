@@ -1,4 +1,6 @@
 // The recorder: reads a script from standard input, and writes the tape of its calls.
+#![tactic(auto)]
+
 use programs::Program;
 
 fn main() {

@@ -1,4 +1,6 @@
 // The recorder: the calls of a script's lines are made, and their records put in blocks.
+#![tactic(auto)]
+
 ghost use Rattle.std.specs.Prelude.{◌≡◌, ◌+◌, ◌≤◌, ◌<◌, length};
 ghost use Rattle.pieces.specs.Program.{longest};
 ghost use Rattle.pieces.specs.Reads.{Taken, Finished};

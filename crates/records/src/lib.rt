@@ -1,4 +1,6 @@
 // A call as a record of the tape, and a record as a call.
+#![tactic(auto)]
+
 ghost use Rattle.std.specs.Prelude.{◌≡◌};
 ghost use Rattle.kernel.specs.Answer.{said};
 ghost use Rattle.verbs.specs.Verbs.{verb_of};

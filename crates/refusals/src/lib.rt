@@ -1,5 +1,7 @@
 // The rows of the refusal table, read in words that are known to be sound: those of every call, and one further row. What a call answers, behind
 // the test of soundness and before it.
+#![tactic(auto)]
+
 ghost use Rattle.std.specs.Prelude.{◌≡◌, Bool, List, [], ◌∷◌, ◌++◌, ◌<◌, pos};
 ghost use Rattle.kernel.specs.declared.Answer.TheVariants.{Done, Refused};
 ghost use Rattle.kernel.specs.Status.{status_number};

@@ -1,4 +1,6 @@
 // The replay: reads a tape from standard input, runs it on a fresh kernel, and prints the index of the first answer that differs, or none.
+#![tactic(auto)]
+
 use programs::Program;
 
 fn main() {

@@ -1,4 +1,6 @@
 // The replay: the calls of a tape's records are made again, and the answers compared.
+#![tactic(auto)]
+
 ghost use Rattle.std.specs.Prelude.{◌≡◌, List, ℕ, ◌+◌, ◌≤◌, length, drop};
 ghost use Rattle.kernel.specs.Sound.{Sound};
 ghost use Rattle.pieces.specs.Program.{longest};

@@ -1,4 +1,6 @@
 // One step of a script: a line of bytes to a call to a printed line.
+#![tactic(auto)]
+
 ghost use Rattle.std.specs.Prelude.{◌≡◌, ◌+◌, ◌≤◌, length, take};
 ghost use Rattle.io.specs.Counts.{IsPrefixLen};
 ghost use Rattle.language.specs.Meaning.{call_of, meaning};

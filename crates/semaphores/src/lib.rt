@@ -1,4 +1,6 @@
 // New semaphore, delete, wait and signal.
+#![tactic(auto)]
+
 ghost use Rattle.std.specs.Prelude.{◌≡◌, not, ◌||◌};
 ghost use Rattle.kernel.specs.Status.{waiters};
 ghost use Rattle.kernel.specs.Kernel.{queue, semaphore};

@@ -1,4 +1,6 @@
 // Document 01's clauses of soundness that look at no link, over lent words: whatever they are.
+#![tactic(auto)]
+
 ghost use Rattle.std.specs.Prelude.{◌≡◌, true, ◌↔◌, ◌⊎◌, ℕ, ◌<◌, ◌≤◌};
 ghost use Rattle.kernel.specs.declared.Class.TheVariants.{Nrt, Hard};
 ghost use Rattle.kernel.specs.Sizes.{task_count, semaphore_count};

@@ -1,4 +1,6 @@
 // The clauses of soundness about channels and sessions, over lent words: whatever they are.
+#![tactic(auto)]
+
 ghost use Rattle.std.specs.Prelude.{◌≡◌, true, ◌↔◌, ℕ, ◌<◌};
 ghost use Rattle.kernel.specs.declared.Latest.TheVariants.{Nothing, Buffer};
 ghost use Rattle.kernel.specs.Sizes.{task_count, channel_count};

@@ -1,4 +1,6 @@
 // The test behind -11 over lent words: whether they are sound, whatever is in them.
+#![tactic(auto)]
+
 ghost use Rattle.std.specs.Prelude.{◌≡◌, true, ◌↔◌, ℕ, ◌<◌};
 ghost use Rattle.laws_chain.specs.Lists.{Among};
 ghost use Rattle.kernel.specs.Sizes.{task_count};

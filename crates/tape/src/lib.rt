@@ -1,4 +1,6 @@
 // A block of the black tape: records are put in their places, the block is closed with its number, count and check; and a block is read, or refused by name.
+#![tactic(auto)]
+
 ghost use Rattle.std.specs.Prelude.{◌≡◌, ◌+◌, ◌-◌, ◌≤◌, length, get_or, take, drop};
 ghost use Rattle.big_endian.specs.BigEndian.{part};
 ghost use Rattle.kernel.specs.Channels.{over};

@@ -1,4 +1,6 @@
 // The tape's lister: reads a tape from standard input, and prints a line for each block.
+#![tactic(auto)]
+
 use programs::Program;
 
 fn main() {

@@ -1,4 +1,6 @@
 // Activate, sleep and cycle.
+#![tactic(auto)]
+
 ghost use Rattle.std.specs.Prelude.{◌≡◌, not, ◌||◌, ◌<◌, ltb};
 ghost use Rattle.kernel.specs.Sizes.{task_count};
 ghost use Rattle.kernel.specs.Kernel.{task};

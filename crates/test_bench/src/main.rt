@@ -1,4 +1,6 @@
 // Runs the bench cases of tasks and semaphores that are to be run, and prints a line a call.
+#![tactic(auto)]
+
 mod lives;
 mod slack;
 mod waiting;

@@ -1,4 +1,6 @@
 // What the programs on channels print: a line a call, with its arguments, and the bytes that are shown.
+#![tactic(auto)]
+
 use kernel::{ChannelNo, State};
 use test_lines::{after, number, write};
 

@@ -1,4 +1,6 @@
 // Runs the calls on channels until each refusal number that they can give has been given, and prints a line a call.
+#![tactic(auto)]
+
 mod order;
 mod refused;
 

@@ -1,4 +1,6 @@
 // The script program on examples/belts.txt, of which `stdin` is a copy: what README.md and examples/README.md say is printed.
+#![tactic(auto)]
+
 use programs::Program;
 
 fn main() {

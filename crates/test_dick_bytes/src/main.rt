@@ -1,4 +1,6 @@
 // The script program with a block of one byte: every read brings one byte, and a line comes in as many exchanges as it has bytes.
+#![tactic(auto)]
+
 use programs::Program;
 
 fn main() {

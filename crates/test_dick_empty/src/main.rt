@@ -1,4 +1,6 @@
 // The script program on an empty input.
+#![tactic(auto)]
+
 use programs::Program;
 
 fn main() {

@@ -1,4 +1,6 @@
 // The script program on odd lines: lengths around 64 bytes, decimals of 10 and 11 digits, spaces too many, bytes that are no text.
+#![tactic(auto)]
+
 use programs::Program;
 
 fn main() {

@@ -1,4 +1,6 @@
 // The script program on equal deadlines and priorities: who is taken first.
+#![tactic(auto)]
+
 use programs::Program;
 
 fn main() {

@@ -1,4 +1,6 @@
 // The script program on examples/photocell.txt, of which `stdin` is a copy: what examples/README.md says is printed.
+#![tactic(auto)]
+
 use programs::Program;
 
 fn main() {

@@ -1,4 +1,6 @@
 // The script program on every verb: taken, and with each refusal that a script can come to.
+#![tactic(auto)]
+
 use programs::Program;
 
 fn main() {

@@ -1,4 +1,6 @@
 // Two writers and two readers: every merge of the writers' steps, with the readers opening at every point of it.
+#![tactic(auto)]
+
 mod scene;
 mod steps;
 

@@ -1,4 +1,6 @@
 // What the test programs print: a line a call, with its answer, the running task and the clock.
+#![tactic(auto)]
+
 ghost use Rattle.std.specs.Prelude.{◌<◌};
 ghost use Rattle.test_lines.specs.Check.{prime};
 

@@ -1,4 +1,6 @@
 // Runs the calls on channels: document 01's cases, pieces, sessions that end or go on, and what the readers are shown.
+#![tactic(auto)]
+
 mod document;
 mod lives;
 mod neighbours;

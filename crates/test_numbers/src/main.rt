@@ -1,4 +1,6 @@
 // Runs the refusals that no script comes to, those of states that are not sound, of the last tick and of the questions, and prints a line a call.
+#![tactic(auto)]
+
 use kernel::{State, TaskNo};
 use test_lines::{after, ticked};
 

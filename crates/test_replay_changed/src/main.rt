@@ -1,4 +1,6 @@
 // The replay of a tape on which one answer is another, in the middle of it.
+#![tactic(auto)]
+
 use programs::Program;
 
 fn main() {

@@ -1,4 +1,6 @@
 // The replay of a tape on which two blocks are exchanged: an answer that differs behind them is not seen.
+#![tactic(auto)]
+
 use programs::Program;
 
 fn main() {

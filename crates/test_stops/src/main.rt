@@ -1,5 +1,7 @@
 // Runs a tick at which a zombie and an IDLE task are due: one that goes on, one that stops by overrun and one at lifetime. Prints what the state
 // holds before and after it.
+#![tactic(auto)]
+
 mod holds;
 
 use kernel::{State, TaskNo};

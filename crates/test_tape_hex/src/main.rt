@@ -1,4 +1,6 @@
 // The block of docs/TAPE.md: four calls are made on a fresh kernel and recorded, and their block is printed in hex, a line a field.
+#![tactic(auto)]
+
 use kernel::{State, TaskNo};
 use test_lines::{number, title, write};
 use verbs::Verb;

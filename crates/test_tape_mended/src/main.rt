@@ -1,4 +1,6 @@
 // The tape's lister on damaged blocks with good checks: the tests behind that of the check, and their edges.
+#![tactic(auto)]
+
 use programs::Program;
 
 fn main() {

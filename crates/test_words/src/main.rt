@@ -1,5 +1,7 @@
 // What the soundness test says of words: of each state on standard input (its words in the order of docs/LAYOUT.md, four bytes each, the highest first), and of those that
 // one bit tells from it; and what calls give on those.
+#![tactic(auto)]
+
 mod flips;
 
 use kernel::State;

@@ -1,4 +1,6 @@
 // Texts and numbers, put into a buffer behind what is there: each function takes how long the text in it is, and gives how long it is then.
+#![tactic(auto)]
+
 ghost use Rattle.std.specs.Prelude.{◌≡◌, ◌+◌, ◌≤◌, length};
 ghost use Rattle.kernel.specs.Answer.{said};
 ghost use Rattle.text.specs.Text as Text;

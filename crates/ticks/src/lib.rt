@@ -1,4 +1,6 @@
 // The clock tick.
+#![tactic(auto)]
+
 ghost use Rattle.std.specs.Prelude.{◌≡◌, ◌+◌, ◌-◌, ◌≤◌, ◌<◌};
 ghost use Rattle.kernel.specs.Sizes.{task_count};
 ghost use Rattle.kernel.specs.Status.{queue_count};

@@ -1,4 +1,6 @@
 // A call on tasks, time or semaphores as data, and the making of it.
+#![tactic(auto)]
+
 ghost use Rattle.kernel.specs.Calls.{verb};
 ghost use Rattle.kernel.specs.Sound.{Sound};
 ghost use Rattle.kernel.specs.Promise.{Unlent, reply, UnlentKnown};

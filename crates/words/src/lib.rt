@@ -1,4 +1,6 @@
 // The leaves: what is read of a state's words, and what is written to them. No other code knows where a word stands.
+#![tactic(auto)]
+
 ghost use Rattle.std.specs.Prelude.{◌≡◌, ◌<◌, ◌+◌, ◌*◌, length, set};
 ghost use Rattle.kernel.specs.Sizes.{task_count, semaphore_count, channel_count};
 ghost use Rattle.kernel.specs.Status.{queue_count, queue_of, stop_number};

@@ -1,4 +1,6 @@
 // Begin write, piece and put.
+#![tactic(auto)]
+
 ghost use Rattle.std.specs.Prelude.{◌≡◌, true, List, ℕ, ◌+◌, ltb, length};
 ghost use Rattle.std.proofs.Math.Option.{none};
 ghost use Rattle.kernel.specs.Channels as Channels;
