@@ -8,8 +8,8 @@ ghost use Rattle.big_endian.specs.BigEndian.{part};
 
 // The number that n bytes from `at` on say.
 pub fn value(bytes: &[u8], at: usize, n: usize) -> u32
-    requires fact_1 { at + n ≤ length bytes.now }
-    requires fact_2 { n ≤ 4 }
+    requires inside { at + n ≤ length bytes.now }
+    requires few { n ≤ 4 }
     ensures { result ≡ BigEndian.value (part at n bytes.now) }
 {
     let mut v: u32 = 0;

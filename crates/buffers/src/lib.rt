@@ -96,10 +96,10 @@ pub fn own(w: &[u32; State::WORDS], c: usize) -> Session
 
 // The running task has this session on channel c from now on.
 pub fn with_own(w: &mut [u32; State::WORDS], c: usize, z: Session)
-    requires fact_1 { Kept w.old }
-    requires fact_2 { c < channel_count }
-    requires fact_3 { (seen w.old).running < task_count }
-    requires fact_4 { Channels.buffer z < most_buffers }
+    requires kept { Kept w.old }
+    requires is_channel { c < channel_count }
+    requires runs_task { (seen w.old).running < task_count }
+    requires is_buffer { Channels.buffer z < most_buffers }
     ensures { Shows w.new (with_own (seen w.old) c z) }
 {
     let t = words::running(w);

@@ -36,9 +36,9 @@ pub fn channel_of(w: &[u32; State::WORDS], c: usize) -> Channel
 
 // Channel c is this from now on.
 pub fn store(w: &mut [u32; State::WORDS], c: usize, channel: Channel)
-    requires fact_1 { Kept w.old }
-    requires fact_2 { c < channel_count }
-    requires fact_3 { latest_code channel.latest < 4294967296 }
+    requires kept { Kept w.old }
+    requires is_channel { c < channel_count }
+    requires latest_fits { latest_code channel.latest < 4294967296 }
     ensures { Shows w.new (with_channel (seen w.old) c channel) }
 {
     words::set_channel(w, c, channel);
@@ -78,8 +78,8 @@ pub fn may_open(w: &[u32; State::WORDS], size: usize, buffers: usize) -> Verdict
 // The number is that of the channel.
 pub fn opened(w: &mut [u32; State::WORDS], size: usize, buffers: usize) -> usize
     requires { Legal (on_channel (Calls.open_channel size buffers)) w.old }
-    ensures fact_1 { result ≡ lowest_channel (seen w.old) }
-    ensures fact_2 { Shows w.new (Channels.open_channel size buffers (seen w.old)) }
+    ensures number { result ≡ lowest_channel (seen w.old) }
+    ensures shows { Shows w.new (Channels.open_channel size buffers (seen w.old)) }
 {
     let c = buffers::lowest_channel(w);
     let latest = Latest::Nothing;

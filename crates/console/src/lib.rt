@@ -58,10 +58,10 @@ fn respond(
     bytes: &[u8],
     paper: &mut [u8],
 ) -> Response
-    requires fact_1 { length piece.old ≡ longest }
-    requires fact_2 { Ready (kept w.old block.old from) }
-    requires fact_3 { length bytes.now ≤ longest_block }
-    requires fact_4 { length paper.old ≡ longest_block }
+    requires piece_size { length piece.old ≡ longest }
+    requires ready { Ready (kept w.old block.old from) }
+    requires bytes_size { length bytes.now ≤ longest_block }
+    requires paper_size { length paper.old ≡ longest_block }
     ensures ready { Ready (kept w.new block.new result.at) }
     ensures responds { Responds p bytes.now (desk w.old block.old from piece.old) (desk w.new block.new result.at piece.new) result }
 {
@@ -109,10 +109,10 @@ fn exchange(
     input: &mut [u8],
     paper: &mut [u8],
 ) -> Between
-    requires fact_1 { length piece.old ≡ longest }
-    requires fact_2 { Ready (kept w.old block.old from) }
-    requires fact_3 { length input.old ≤ longest_block }
-    requires fact_4 { length paper.old ≡ longest_block }
+    requires piece_size { length piece.old ≡ longest }
+    requires ready { Ready (kept w.old block.old from) }
+    requires input_size { length input.old ≤ longest_block }
+    requires paper_size { length paper.old ≡ longest_block }
     ensures ready { Ready (kept w.new block.new result.at) }
     ensures exchange { Exchange p (desk w.old block.old from piece.old) result (desk w.new block.new result.at piece.new) input.new }
 {

@@ -47,8 +47,8 @@ fn first_deadline(w: &[u32; State::WORDS], class: Class) -> u32
 
 // The share total with one more task, of this class.
 fn joined(w: &[u32; State::WORDS], class: Class) -> u32
-    requires fact_1 { Fits class }
-    requires fact_2 { (seen w.now).total + share_of class ≤ whole }
+    requires class_fits { Fits class }
+    requires total_fits { (seen w.now).total + share_of class ≤ whole }
     ensures { result ≡ (seen w.now).total + share_of class }
 {
     let share = sound_clauses::share_of(class);

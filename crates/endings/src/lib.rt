@@ -19,8 +19,8 @@ use refusals::Verdict;
 
 // The sessions of task n are closed, unput.
 fn close_sessions(w: &mut [u32; State::WORDS], n: usize)
-    requires fact_1 { Kept w.old }
-    requires fact_2 { n < task_count }
+    requires kept { Kept w.old }
+    requires is_task { n < task_count }
     ensures { Shows w.new (with_sessions (seen w.old) (Tasks.close_sessions channel_count n (seen w.old).sessions)) }
 {
     let mut c: usize = 0;
@@ -32,8 +32,8 @@ fn close_sessions(w: &mut [u32; State::WORDS], n: usize)
 
 // Task n goes out of whichever queue it is in: HARD to zombie, keeping deadline and share; NRT goes FREE.
 fn ended(w: &mut [u32; State::WORDS], n: usize)
-    requires fact_1 { Kept w.old }
-    requires fact_2 { n < task_count }
+    requires kept { Kept w.old }
+    requires is_task { n < task_count }
     ensures { Shows w.new (move (seen w.old) n (Tasks.ended (task (seen w.old) n) (task (seen w.old) n).class)) }
 {
     let class = words::class(w, n);
@@ -50,8 +50,8 @@ fn ended(w: &mut [u32; State::WORDS], n: usize)
 
 // So it ends, with its sessions.
 fn finish(w: &mut [u32; State::WORDS], n: usize)
-    requires fact_1 { Kept w.old }
-    requires fact_2 { n < task_count }
+    requires kept { Kept w.old }
+    requires is_task { n < task_count }
     ensures { Shows w.new (Tasks.finish n (seen w.old)) }
 {
     ended(w, n);

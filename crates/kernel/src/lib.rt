@@ -236,8 +236,8 @@ impl State {
 
 // -1 in so many words: the first at `from`, and each `step` behind the one before.
 fn none_at(w: &mut [u32; State::WORDS], from: usize, step: usize, count: usize)
-    requires fact_1 { 1 ≤ step }
-    requires fact_2 { from + step * count ≤ word_count }
+    requires step_some { 1 ≤ step }
+    requires inside { from + step * count ≤ word_count }
     ensures { w.new ≡ with_none w.old from step count }
 {
     let mut i: usize = 0;

@@ -11,7 +11,8 @@ use kernel::State;
 
 // Where buffer b of channel c starts.
 pub fn buffer_start(c: usize, b: usize) -> usize
-    requires { (c < channel_count) × (b < most_buffers) }
+    requires is_channel { c < channel_count }
+    requires is_buffer { b < most_buffers }
     ensures { result ≡ Channels.buffer_start c b }
 {
     State::LONGEST_MESSAGE * (State::MOST_BUFFERS * c + b)

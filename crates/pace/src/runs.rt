@@ -21,7 +21,8 @@ fn make(w: &mut [u32; State::WORDS], tested: bool, asked: Verb) -> Answer
 
 // A call's answer and who runs then are folded.
 fn call(w: &mut [u32; State::WORDS], tested: bool, asked: Verb, check: u64) -> u64
-    requires { (Sound w.old) × (check < prime) }
+    requires sound { Sound w.old }
+    requires check_below { check < prime }
     ensures sound { Sound w.new }
     ensures upper_bound { result < prime }
 {

@@ -13,9 +13,9 @@ use kernel::{State, Status};
 
 // Task i gets another status, and goes to its queue.
 pub fn restate(w: &mut [u32; State::WORDS], i: usize, status: Status)
-    requires fact_1 { Kept w.old }
-    requires fact_2 { i < task_count }
-    requires fact_3 { status_code status < 4294967296 }
+    requires kept { Kept w.old }
+    requires is_task { i < task_count }
+    requires status_fits { status_code status < 4294967296 }
     ensures { Shows w.new (move (seen w.old) i (with_status (task (seen w.old) i) status)) }
 {
     let deadline = words::deadline(w, i);
@@ -24,8 +24,8 @@ pub fn restate(w: &mut [u32; State::WORDS], i: usize, status: Status)
 
 // The deadline of task x with its period added.
 fn next_deadline(w: &[u32; State::WORDS], x: usize) -> u32
-    requires fact_1 { x < task_count }
-    requires fact_2 { (task (seen w.now) x).deadline + period_of (task (seen w.now) x).class < 4294967296 }
+    requires is_task { x < task_count }
+    requires next_fits { (task (seen w.now) x).deadline + period_of (task (seen w.now) x).class < 4294967296 }
     ensures { result ≡ (task (seen w.now) x).deadline + period_of (task (seen w.now) x).class }
 {
     let class = words::class(w, x);
@@ -35,9 +35,9 @@ fn next_deadline(w: &[u32; State::WORDS], x: usize) -> u32
 
 // Task x is READY, with its period added.
 pub fn renew(w: &mut [u32; State::WORDS], x: usize)
-    requires fact_1 { Kept w.old }
-    requires fact_2 { x < task_count }
-    requires fact_3 { (task (seen w.old) x).deadline + period_of (task (seen w.old) x).class < 4294967296 }
+    requires kept { Kept w.old }
+    requires is_task { x < task_count }
+    requires next_fits { (task (seen w.old) x).deadline + period_of (task (seen w.old) x).class < 4294967296 }
     ensures { Shows w.new (move (seen w.old) x (next_period (task (seen w.old) x))) }
 {
     let deadline = next_deadline(w, x);
@@ -59,8 +59,8 @@ pub fn dispatch(w: &mut [u32; State::WORDS])
 
 // Only if the first ready deadline is strictly below the running one, the running task goes to ready and the first ready task runs.
 pub fn schedule(w: &mut [u32; State::WORDS])
-    requires fact_1 { Kept w.old }
-    requires fact_2 { (seen w.old).running < task_count }
+    requires kept { Kept w.old }
+    requires runs_task { (seen w.old).running < task_count }
     ensures { Shows w.new (scheduled (seen w.old)) }
 {
     let x = queues::first(w, State::READY_QUEUE);

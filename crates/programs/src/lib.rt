@@ -65,8 +65,8 @@ fn turn(
     paper: &mut [u8],
     printed: usize,
 ) -> Turned
-    requires fact_1 { Ready (kept w.old block.old at) }
-    requires fact_2 { printed + longest ≤ length paper.old }
+    requires ready { Ready (kept w.old block.old at) }
+    requires room { printed + longest ≤ length paper.old }
     ensures { Turn p piece.now (kept w.old block.old at) (kept w.new block.new result.at) paper.old printed paper.new result.printed }
 {
     let mut next = at;
@@ -117,9 +117,9 @@ fn ended(
     paper: &mut [u8],
     printed: usize,
 ) -> Turned
-    requires fact_1 { length piece.now ≡ longest }
-    requires fact_2 { Ready (kept w.old block.old at) }
-    requires fact_3 { printed + longest ≤ length paper.old }
+    requires piece_size { length piece.now ≡ longest }
+    requires ready { Ready (kept w.old block.old at) }
+    requires room { printed + longest ≤ length paper.old }
     ensures { Ended p piece.now n (kept w.old block.old at) (kept w.new block.new result.at) paper.old printed paper.new result.printed }
 {
     if n <= LONGEST {
@@ -151,9 +151,9 @@ fn byte(
     paper: &mut [u8],
     printed: usize,
 ) -> Turned
-    requires fact_1 { length piece.old ≡ longest }
-    requires fact_2 { Ready (kept w.old block.old at) }
-    requires fact_3 { printed + longest ≤ length paper.old }
+    requires piece_size { length piece.old ≡ longest }
+    requires ready { Ready (kept w.old block.old at) }
+    requires room { printed + longest ≤ length paper.old }
     ensures { Fed p b (desk w.old block.old at piece.old) (desk w.new block.new result.at piece.new) paper.old printed paper.new result.printed }
 {
     if by_lines(p) {
@@ -191,9 +191,9 @@ pub fn feed(
     bytes: &[u8],
     paper: &mut [u8],
 ) -> Progress
-    requires fact_1 { length piece.old ≡ longest }
-    requires fact_2 { Ready (kept w.old block.old from) }
-    requires fact_3 { longest ≤ length paper.old }
+    requires piece_size { length piece.old ≡ longest }
+    requires ready { Ready (kept w.old block.old from) }
+    requires room { longest ≤ length paper.old }
     ensures ready { Ready (kept w.new block.new result.at) }
     ensures prefix_len { IsPrefixLen result.printed paper.new }
     ensures read_in_bounds { result.read ≤ length bytes.now }
@@ -241,8 +241,8 @@ fn finish(
     paper: &mut [u8],
     printed: usize,
 ) -> usize
-    requires fact_1 { Ready (kept w.now block.old at) }
-    requires fact_2 { printed + longest ≤ length paper.old }
+    requires ready { Ready (kept w.now block.old at) }
+    requires room { printed + longest ≤ length paper.old }
     ensures { Finished (model p) Kept (Keeps p) (kept w.now block.old at) paper.old printed paper.new result }
 {
     match p {
@@ -268,9 +268,9 @@ pub fn end(
     at: Standing,
     paper: &mut [u8],
 ) -> usize
-    requires fact_1 { length piece.now ≡ longest }
-    requires fact_2 { Ready (kept w.old block.old at) }
-    requires fact_3 { longest + longest ≤ length paper.old }
+    requires piece_size { length piece.now ≡ longest }
+    requires ready { Ready (kept w.old block.old at) }
+    requires room { longest + longest ≤ length paper.old }
     ensures prefix_len { IsPrefixLen result paper.new }
     ensures ends { Ends p (desk w.old block.old at piece.now) (take result paper.new) }
 {

@@ -79,8 +79,8 @@ pub fn status(s: State, task: TaskNo) -> Reply
 // ---- deadline and slack, which have the same rows
 
 pub fn may_ask(w: &[u32; State::WORDS], n: usize) -> Verdict
-    ensures fact_1 { Refusal (question (Calls.deadline n)) w.now result }
-    ensures fact_2 { Refusal (question (Calls.slack n)) w.now result }
+    ensures deadline { Refusal (question (Calls.deadline n)) w.now result }
+    ensures slack { Refusal (question (Calls.slack n)) w.now result }
 {
     let every = refusals::every_call(w);
     let unused = refusals::no_task_in_use(w, n);

@@ -44,8 +44,8 @@ struct Gap {
 
 // Where a task of this deadline goes in queue q: past every deadline no later than its own.
 fn scan(w: &[u32; State::WORDS], q: usize, deadline: u32) -> Gap
-    requires fact_1 { q < queue_count }
-    requires fact_2 { Linked w.now q }
+    requires is_queue { q < queue_count }
+    requires linked { Linked w.now q }
     ensures { Found w.now q deadline result.before result.after result.passed }
 {
     let mut before = State::NONE;
@@ -91,9 +91,9 @@ pub fn take_out(w: &mut [u32; State::WORDS], i: usize)
 // Task i, which is in no queue, gets this status and deadline, and goes into the queue of its status, if that has one: how many it
 // passes there.
 pub fn file(w: &mut [u32; State::WORDS], i: usize, status: Status, deadline: u32) -> usize
-    requires fact_1 { i < task_count }
-    requires fact_2 { status_code status < 4294967296 }
-    requires fact_3 { (queue_of status < queue_count → Linked w.old (queue_of status)) }
+    requires is_task { i < task_count }
+    requires status_fits { status_code status < 4294967296 }
+    requires linked { (queue_of status < queue_count → Linked w.old (queue_of status)) }
     ensures { FiledIn w.old i status deadline w.new result }
 {
     let q = kernel::queue_of(status);
@@ -113,9 +113,9 @@ pub fn file(w: &mut [u32; State::WORDS], i: usize, status: Status, deadline: u32
 
 // Task i goes from its queue to that of its new status, with its new deadline: how many it passes there.
 pub fn move_task(w: &mut [u32; State::WORDS], i: usize, status: Status, deadline: u32) -> usize
-    requires fact_1 { Kept w.old }
-    requires fact_2 { i < task_count }
-    requires fact_3 { status_code status < 4294967296 }
+    requires kept { Kept w.old }
+    requires is_task { i < task_count }
+    requires status_fits { status_code status < 4294967296 }
     ensures { Moved w.old i (filed_record (seen w.old) i status deadline) w.new result }
 {
     take_out(w, i);
@@ -131,10 +131,10 @@ pub fn recast(
     status: Status,
     deadline: u32,
 ) -> usize
-    requires fact_1 { Kept w.old }
-    requires fact_2 { i < task_count }
-    requires fact_3 { status_code status < 4294967296 }
-    requires fact_4 { Classed class }
+    requires kept { Kept w.old }
+    requires is_task { i < task_count }
+    requires status_fits { status_code status < 4294967296 }
+    requires classed { Classed class }
     ensures { Moved w.old i (record { class = class; status = status; deadline = deadline }) w.new result }
 {
     words::set_class(w, i, class);

@@ -77,8 +77,8 @@ fn shown<'a>(
     other: &'a [u8],
     n: usize,
 ) -> &'a [u8]
-    requires fact_1 { Showable w.now c verdict memory.now }
-    requires fact_2 { n ≤ length other.now }
+    requires showable { Showable w.now c verdict memory.now }
+    requires within { n ≤ length other.now }
     ensures { slice result ≡ by_verdict verdict (message (seen w.now) c (slice memory.entry)) (part_of (slice other.entry) 0 n) }
 {
     match verdict {

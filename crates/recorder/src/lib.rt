@@ -38,7 +38,8 @@ pub fn next(number: u32) -> u32
 
 // The block is closed, and put on the paper.
 fn out(block: &mut [u8], at: Begun, paper: &mut [u8], printed: usize) -> usize
-    requires { (length block.old ≡ block_size) × (printed + longest ≤ length paper.old) }
+    requires block_size { length block.old ≡ block_size }
+    requires room { printed + longest ≤ length paper.old }
     ensures block_after { block.new ≡ closed block.old at.number at.count }
     ensures continued { Continued paper.old printed block.new paper.new result }
 {
@@ -48,9 +49,9 @@ fn out(block: &mut [u8], at: Begun, paper: &mut [u8], printed: usize) -> usize
 
 // A record more. A block that is full goes out.
 fn keep(block: &mut [u8], at: Begun, r: Record, paper: &mut [u8], printed: usize) -> Turned
-    requires fact_1 { length block.old ≡ block_size }
-    requires fact_2 { at.count < most_records }
-    requires fact_3 { printed + longest ≤ length paper.old }
+    requires block_size { length block.old ≡ block_size }
+    requires not_full { at.count < most_records }
+    requires room { printed + longest ≤ length paper.old }
     ensures { Recorded block.old at r paper.old printed block.new paper.new result }
 {
     tape::put(block, at.count, r);
@@ -80,8 +81,8 @@ pub fn line(
     paper: &mut [u8],
     printed: usize,
 ) -> Turned
-    requires fact_1 { Ready (record { words = w.old; block = block.old; at = at }) }
-    requires fact_2 { printed + longest ≤ length paper.old }
+    requires ready { Ready (record { words = w.old; block = block.old; at = at }) }
+    requires room { printed + longest ≤ length paper.old }
     ensures ready { Ready (record { words = w.new; block = block.new; at = result.at }) }
     ensures taken { Taken recorder Kept Keeps line.now (record { words = w.old; block = block.old; at = at }) (record { words = w.new; block = block.new; at = result.at }) paper.old printed paper.new result.printed }
 {
@@ -103,8 +104,8 @@ pub fn finish(
     paper: &mut [u8],
     printed: usize,
 ) -> usize
-    requires fact_1 { Ready (record { words = w.now; block = block.old; at = at }) }
-    requires fact_2 { printed + longest ≤ length paper.old }
+    requires ready { Ready (record { words = w.now; block = block.old; at = at }) }
+    requires room { printed + longest ≤ length paper.old }
     ensures { Finished recorder Kept Keeps (record { words = w.now; block = block.old; at = at }) paper.old printed paper.new result }
 {
     if at.count == 0 {

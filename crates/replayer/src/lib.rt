@@ -35,9 +35,9 @@ fn stopped(at: Replayed, found: bool) -> Replayed
 
 // The calls of a block's records are made, up to the first whose answer differs.
 fn run(w: &mut [u32; State::WORDS], block: &[u8], count: usize, at: Replayed) -> Replayed
-    requires fact_1 { Sound w.old }
-    requires fact_2 { block_size ≤ length block.now }
-    requires fact_3 { count ≤ most_records }
+    requires sound { Sound w.old }
+    requires whole_block { block_size ≤ length block.now }
+    requires count_most { count ≤ most_records }
     ensures sound { Sound w.new }
     ensures result_after { replaying w.new result ≡ Replay.run (records_of count (drop first_at block.now)) (replaying w.old at) }
 {

@@ -71,8 +71,8 @@ pub fn may_make(w: &[u32; State::WORDS], n: usize, count: u64) -> Verdict
 }
 
 pub fn made(w: &mut [u32; State::WORDS], n: usize, count: u64)
-    requires fact_1 { Legal (verb (Calls.new_semaphore count)) w.old }
-    requires fact_2 { n ≡ lowest_semaphore (seen w.old) }
+    requires legal { Legal (verb (Calls.new_semaphore count)) w.old }
+    requires lowest { n ≡ lowest_semaphore (seen w.old) }
     ensures { Shows w.new (Semaphores.new_semaphore count (seen w.old)) }
 {
     let a = Semaphore {

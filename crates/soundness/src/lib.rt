@@ -84,8 +84,8 @@ fn chained(w: &[u32; State::WORDS], q: usize) -> bool
 
 // Whether the tasks of queue q have its status and stand by rising deadline.
 fn sorted(w: &[u32; State::WORDS], q: usize) -> bool
-    requires fact_1 { q < queue_count }
-    requires fact_2 { Linked w.now q }
+    requires is_queue { q < queue_count }
+    requires linked { Linked w.now q }
     ensures { (result ≡ true) ↔ Sorted (seen w.now) q }
 {
     let mut low: u32 = 0;
@@ -106,8 +106,8 @@ fn sorted(w: &[u32; State::WORDS], q: usize) -> bool
 
 // Whether task x stands in queue q.
 fn stands(w: &[u32; State::WORDS], q: usize, x: usize) -> bool
-    requires fact_1 { q < queue_count }
-    requires fact_2 { Linked w.now q }
+    requires is_queue { q < queue_count }
+    requires linked { Linked w.now q }
     ensures { (result ≡ true) ↔ Among x (queue (seen w.now) q) }
 {
     let mut y = words::wide(words::head(w, q));
@@ -160,8 +160,8 @@ fn loose(w: &[u32; State::WORDS], x: usize) -> bool
 
 // Whether task x stands in the queue of its status, or is loose where that has none.
 fn task_filed(w: &[u32; State::WORDS], x: usize) -> bool
-    requires fact_1 { x < task_count }
-    requires fact_2 { ((q : ℕ) → q < queue_count → GoodQueue w.now q) }
+    requires is_task { x < task_count }
+    requires queues { ((q : ℕ) → q < queue_count → GoodQueue w.now q) }
     ensures { (result ≡ true) ↔ FiledTask w.now x }
 {
     let q = words::queue(w, x);

@@ -63,8 +63,8 @@ fn release(class: Class, clock: u32, deadline: u32) -> u32
 
 // The deadline that task n gets on activation.
 fn released(w: &[u32; State::WORDS], n: usize) -> u32
-    requires fact_1 { Sound w.now }
-    requires fact_2 { n < task_count }
+    requires sound { Sound w.now }
+    requires is_task { n < task_count }
     ensures { result ≡ Tasks.release (task (seen w.now) n).class (seen w.now).clock (task (seen w.now) n).deadline }
 {
     let class = words::class(w, n);

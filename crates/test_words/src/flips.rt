@@ -17,7 +17,8 @@ pub struct Found {
 
 // The word with another bit at the place that stands for p.
 fn turned(n: u32, p: u64) -> u32
-    requires { (0 < p) × (p < 4294967296) }
+    requires some { 0 < p }
+    requires word { p < 4294967296 }
 {
     let wide = n as u64;
     if wide >= p {
@@ -145,8 +146,8 @@ fn and(before: Found, s: State) -> Found
 
 // The states that differ from this one in one bit of word j.
 fn beside_at(before: Found, s: State, j: usize) -> Found
-    requires fact_1 { before.check < prime }
-    requires fact_2 { j < word_count }
+    requires check_below { before.check < prime }
+    requires is_word { j < word_count }
     ensures { result.check < prime }
 {
     let mut found = before;

@@ -22,8 +22,8 @@ use refusals::Verdict;
 
 // The first task of queue q if it is due, and a number that no task has else.
 fn first_due(w: &[u32; State::WORDS], q: usize) -> usize
-    requires fact_1 { Kept w.now }
-    requires fact_2 { q < queue_count }
+    requires kept { Kept w.now }
+    requires is_queue { q < queue_count }
     ensures { FirstDue w.now q result }
 {
     let x = queues::first(w, q);
@@ -39,9 +39,9 @@ fn first_due(w: &[u32; State::WORDS], q: usize) -> usize
 
 // The total without the share of task x.
 fn total_without(w: &[u32; State::WORDS], x: usize) -> u32
-    requires fact_1 { x < task_count }
-    requires fact_2 { HardFits (task (seen w.now) x).class }
-    requires fact_3 { share_of (task (seen w.now) x).class ≤ (seen w.now).total }
+    requires is_task { x < task_count }
+    requires hard_fits { HardFits (task (seen w.now) x).class }
+    requires share_counted { share_of (task (seen w.now) x).class ≤ (seen w.now).total }
     ensures { result ≡ (seen w.now).total - share_of (task (seen w.now) x).class }
 {
     let class = words::class(w, x);
@@ -53,10 +53,10 @@ fn total_without(w: &[u32; State::WORDS], x: usize) -> u32
 
 // A zombie becomes FREE, and its share goes out of the total.
 fn free(w: &mut [u32; State::WORDS], x: usize)
-    requires fact_1 { Kept w.old }
-    requires fact_2 { x < task_count }
-    requires fact_3 { HardFits (task (seen w.old) x).class }
-    requires fact_4 { share_of (task (seen w.old) x).class ≤ (seen w.old).total }
+    requires kept { Kept w.old }
+    requires is_task { x < task_count }
+    requires hard_fits { HardFits (task (seen w.old) x).class }
+    requires share_counted { share_of (task (seen w.old) x).class ≤ (seen w.old).total }
     ensures { Shows w.new (Tick.free (seen w.old) x) }
 {
     let left = total_without(w, x);
@@ -66,8 +66,8 @@ fn free(w: &mut [u32; State::WORDS], x: usize)
 
 // Free every zombie that is due.
 fn free_zombies(w: &mut [u32; State::WORDS])
-    requires fact_1 { Kept w.old }
-    requires fact_2 { Freeing (seen w.old) }
+    requires kept { Kept w.old }
+    requires freeing { Freeing (seen w.old) }
     ensures { Shows w.new (Tick.free_zombies (seen w.old)) }
 {
     let mut zombie = first_due(w, State::ZOMBIE_QUEUE);
@@ -79,9 +79,9 @@ fn free_zombies(w: &mut [u32; State::WORDS])
 
 // An IDLE task wakes: add its period, make it READY.
 fn wake(w: &mut [u32; State::WORDS], x: usize)
-    requires fact_1 { Kept w.old }
-    requires fact_2 { x < task_count }
-    requires fact_3 { (task (seen w.old) x).deadline + period_of (task (seen w.old) x).class < 4294967296 }
+    requires kept { Kept w.old }
+    requires is_task { x < task_count }
+    requires next_fits { (task (seen w.old) x).deadline + period_of (task (seen w.old) x).class < 4294967296 }
     ensures { Shows w.new (Tick.wake (seen w.old) x) }
 {
     processor::renew(w, x);
@@ -89,8 +89,8 @@ fn wake(w: &mut [u32; State::WORDS], x: usize)
 
 // Wake every IDLE task that is due. If any woke, schedule.
 fn wake_idle(w: &mut [u32; State::WORDS])
-    requires fact_1 { Kept w.old }
-    requires fact_2 { Ticking (seen w.old) }
+    requires kept { Kept w.old }
+    requires ticking { Ticking (seen w.old) }
     ensures { Shows w.new (Tick.wake_idle (seen w.old)) }
 {
     let mut idle = first_due(w, State::IDLE_QUEUE);

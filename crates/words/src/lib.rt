@@ -107,14 +107,16 @@ pub fn set_total(w: &mut [u32; State::WORDS], total: u32)
 
 // The word f of the record of task x.
 pub fn read(w: &[u32; State::WORDS], x: usize, f: usize) -> u32
-    requires { (x < task_count) × (f < record_size) }
+    requires is_task { x < task_count }
+    requires is_field { f < record_size }
     ensures { result ≡ word w.now (field x f) }
 {
     w[State::TASKS_AT + Task::WORDS * x + f]
 }
 
 fn write(w: &mut [u32; State::WORDS], x: usize, f: usize, n: u32)
-    requires { (x < task_count) × (f < record_size) }
+    requires is_task { x < task_count }
+    requires is_field { f < record_size }
     ensures { w.new ≡ set w.old (field x f) n }
 {
     w[State::TASKS_AT + Task::WORDS * x + f] = n;
@@ -278,8 +280,8 @@ pub fn set_filing(
     next: u32,
     previous: u32,
 )
-    requires fact_1 { x < task_count }
-    requires fact_2 { status_code status < 4294967296 }
+    requires is_task { x < task_count }
+    requires status_fits { status_code status < 4294967296 }
     ensures { w.new ≡ with_filing w.old x status deadline next previous }
 {
     let n = status_code(status);
@@ -340,8 +342,8 @@ pub fn semaphore(w: &[u32; State::WORDS], s: usize) -> Semaphore
 }
 
 pub fn set_semaphore(w: &mut [u32; State::WORDS], s: usize, a: Semaphore)
-    requires fact_1 { s < semaphore_count }
-    requires fact_2 { a.count < 4294967295 }
+    requires is_semaphore { s < semaphore_count }
+    requires count_fits { a.count < 4294967295 }
     ensures { w.new ≡ set w.old (semaphore_at s) (semaphore_code a) }
 {
     if a.used {
@@ -380,8 +382,8 @@ fn session_code(session: Session) -> u32
 }
 
 pub fn set_session(w: &mut [u32; State::WORDS], z: usize, session: Session)
-    requires fact_1 { z < task_count * channel_count }
-    requires fact_2 { session_code session < 4294967296 }
+    requires is_session { z < task_count * channel_count }
+    requires session_fits { session_code session < 4294967296 }
     ensures { w.new ≡ set w.old (session_at z) (session_code session) }
 {
     let n = session_code(session);
@@ -412,14 +414,16 @@ fn latest_code(latest: Latest) -> u32
 
 // The word f of the record of channel c.
 fn read_channel(w: &[u32; State::WORDS], c: usize, f: usize) -> u32
-    requires { (c < channel_count) × (f < 3) }
+    requires is_channel { c < channel_count }
+    requires is_field { f < 3 }
     ensures { result ≡ word w.now (channel_at c + f) }
 {
     w[State::CHANNELS_AT + Channel::WORDS * c + f]
 }
 
 fn write_channel(w: &mut [u32; State::WORDS], c: usize, f: usize, n: u32)
-    requires { (c < channel_count) × (f < 3) }
+    requires is_channel { c < channel_count }
+    requires is_field { f < 3 }
     ensures { w.new ≡ set w.old (channel_at c + f) n }
 {
     w[State::CHANNELS_AT + Channel::WORDS * c + f] = n;
@@ -441,8 +445,8 @@ pub fn channel(w: &[u32; State::WORDS], c: usize) -> Channel
 }
 
 pub fn set_channel(w: &mut [u32; State::WORDS], c: usize, a: Channel)
-    requires fact_1 { c < channel_count }
-    requires fact_2 { latest_code a.latest < 4294967296 }
+    requires is_channel { c < channel_count }
+    requires latest_fits { latest_code a.latest < 4294967296 }
     ensures { w.new ≡ with_channel w.old c a }
 {
     let latest = a.latest;

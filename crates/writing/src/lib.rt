@@ -33,10 +33,10 @@ pub fn may_begin(w: &[u32; State::WORDS], memory: usize, c: usize) -> Verdict
 
 // The buffer that is taken: its message bytes become 0.
 fn cleared(w: &[u32; State::WORDS], c: usize, memory: &mut [u8]) -> u32
-    requires fact_1 { Sound w.now }
-    requires fact_2 { first (rows (on_channel (Calls.begin_write c)) (handed true w.now memory.old)) ≡ none }
-    ensures fact_1 { result ≡ Channels.lowest_buffer (seen w.now) c }
-    ensures fact_2 { memory.new ≡ Channels.cleared c (seen w.now) memory.old }
+    requires sound { Sound w.now }
+    requires none_applies { first (rows (on_channel (Calls.begin_write c)) (handed true w.now memory.old)) ≡ none }
+    ensures lowest { result ≡ Channels.lowest_buffer (seen w.now) c }
+    ensures cleared { memory.new ≡ Channels.cleared c (seen w.now) memory.old }
 {
     let b = buffers::lowest_buffer(w, c);
     let channel = channels::channel_of(w, c);
