@@ -121,7 +121,7 @@ pub fn open_channel(s: State, size: usize, buffers: usize) -> Reply
 // ---- calls on an open channel
 
 // What a call needs of the running task's session on the channel: that there is none, or one of this kind.
-#[derive(Drop)]
+#[derive(Clone, Copy)]
 pub enum Kind {
     Closed,
     Write,

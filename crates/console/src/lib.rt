@@ -15,7 +15,7 @@ use programs::{Program, Standing};
 pub const LONGEST_BLOCK: usize = 8192;
 
 // Between two exchanges: where the program stands, how many bytes C was handed last, and whether there is a further exchange.
-#[derive(Drop)]
+#[derive(Clone, Copy)]
 pub struct Between {
     pub at: Standing,
     pub printed: usize,
@@ -23,7 +23,7 @@ pub struct Between {
 }
 
 // What the bytes of a block came to: how many of them were read, where the program stands, how many bytes C was handed, and whether it took them all.
-#[derive(Drop)]
+#[derive(Clone, Copy)]
 struct Response {
     read: usize,
     at: Standing,
@@ -32,7 +32,7 @@ struct Response {
 }
 
 // How many bytes C was handed, and whether it took them all.
-#[derive(Drop)]
+#[derive(Clone, Copy)]
 struct Printed {
     bytes: usize,
     whole: bool,
@@ -126,7 +126,7 @@ fn exchange(
 }
 
 // Where a program ended, and what was printed last.
-#[derive(Drop)]
+#[derive(Clone, Copy)]
 pub struct Ending {
     pub at: Between,
     pub paper: [u8; LONGEST_BLOCK],

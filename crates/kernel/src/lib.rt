@@ -9,22 +9,22 @@ ghost use Rattle.kernel.specs.Kernel.{period_of};
 ghost use Rattle.kernel.specs.Fresh.{with_none, fresh_state};
 
 // Numbers of three kinds, which cannot be mixed. A caller may hand in any.
-#[derive(Drop)]
+#[derive(Clone, Copy)]
 pub struct TaskNo(pub usize);
 
-#[derive(Drop)]
+#[derive(Clone, Copy)]
 pub struct SemaphoreNo(pub usize);
 
-#[derive(Drop)]
+#[derive(Clone, Copy)]
 pub struct ChannelNo(pub usize);
 
-#[derive(Drop)]
+#[derive(Clone, Copy)]
 pub enum Class {
     Nrt { priority: u32 },
     Hard { period: u32, cost: u32 },
 }
 
-#[derive(Drop)]
+#[derive(Clone, Copy)]
 pub enum Status {
     Free,
     Sleep,
@@ -36,7 +36,7 @@ pub enum Status {
 }
 
 // A task's record. Its links lead to its neighbours in its queue, and are -1 at the ends and outside every queue.
-#[derive(Drop)]
+#[derive(Clone, Copy)]
 pub struct Task {
     pub class: Class,
     pub status: Status,
@@ -45,21 +45,21 @@ pub struct Task {
     pub previous: i64,
 }
 
-#[derive(Drop)]
+#[derive(Clone, Copy)]
 pub struct Semaphore {
     pub used: bool,
     pub count: u32,
 }
 
 // The buffer of the last message put.
-#[derive(Drop)]
+#[derive(Clone, Copy)]
 pub enum Latest {
     Nothing,
     Buffer(u32),
 }
 
 // Size 0 says that the channel is unused.
-#[derive(Drop)]
+#[derive(Clone, Copy)]
 pub struct Channel {
     pub size: u32,
     pub buffers: u32,
@@ -67,19 +67,19 @@ pub struct Channel {
 }
 
 // A task's session on a channel, with its buffer.
-#[derive(Drop)]
+#[derive(Clone, Copy)]
 pub enum Session {
     Closed,
     Write(u32),
     Reading(u32),
 }
 
-#[derive(Drop)]
+#[derive(Clone, Copy)]
 pub struct Slot {
     pub session: Session,
 }
 
-#[derive(Drop)]
+#[derive(Clone, Copy)]
 pub enum Stop {
     Going,
     Overrun,
@@ -87,20 +87,20 @@ pub enum Stop {
 }
 
 // The words of docs/LAYOUT.md, any words at all.
-#[derive(Drop)]
+#[derive(Clone, Copy)]
 pub struct State {
     pub words: [u32; State::WORDS],
 }
 
 // Slack -3 is Done(-3), refusal -3 is Refused(-3).
-#[derive(Drop)]
+#[derive(Clone, Copy)]
 pub enum Answer {
     Done(i64),
     Refused(i64),
 }
 
 // What a call gives back: the next state, the answer and the running task.
-#[derive(Drop)]
+#[derive(Clone, Copy)]
 pub struct Reply {
     pub state: State,
     pub answer: Answer,

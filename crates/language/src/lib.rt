@@ -8,14 +8,14 @@ ghost use Rattle.language.specs.Meaning.{number_of, meaning};
 use kernel::{SemaphoreNo, TaskNo};
 use verbs::Verb;
 
-#[derive(Drop)]
+#[derive(Clone, Copy)]
 enum Number {
     NoNumber,
     Is(u64),
 }
 
 // What a line asks for.
-#[derive(Drop)]
+#[derive(Clone, Copy)]
 pub enum Line {
     NoCall,
     Asks(Verb),

@@ -11,7 +11,7 @@ ghost use Rattle.lister.specs.Listing.{lister};
 use tape::{Fault, Reading};
 
 // Where a block leads: the index of the next, and how much is printed.
-#[derive(Drop)]
+#[derive(Clone, Copy)]
 pub struct Turned {
     pub index: u64,
     pub printed: usize,

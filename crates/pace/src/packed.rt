@@ -8,14 +8,14 @@ use verbs::Verb;
 const ROOM: usize = 4096;
 
 // What a line asks for, if it is a call.
-#[derive(Drop)]
+#[derive(Clone, Copy)]
 pub struct Asked {
     pub is: bool,
     pub verb: Verb,
 }
 
 // So many calls; what stands behind them is none.
-#[derive(Drop)]
+#[derive(Clone, Copy)]
 pub struct Packed {
     pub calls: [Asked; ROOM],
     pub count: usize,

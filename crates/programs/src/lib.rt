@@ -13,7 +13,7 @@ use pieces::LONGEST;
 use recorder::Begun;
 use replayer::Replayed;
 
-#[derive(Drop)]
+#[derive(Clone, Copy)]
 pub enum Program {
     Dick,
     Record,
@@ -22,7 +22,7 @@ pub enum Program {
 }
 
 // Where a program stands between two bytes: how long the piece is that is begun, and what `record`, `tape` and `replay` count.
-#[derive(Drop)]
+#[derive(Clone, Copy)]
 pub struct Standing {
     pub begun: usize,
     pub recorded: Begun,
@@ -50,7 +50,7 @@ pub fn start() -> Standing
 }
 
 // Where a turn leads: no piece is begun then; and how much is printed.
-#[derive(Drop)]
+#[derive(Clone, Copy)]
 pub struct Turned {
     pub at: Standing,
     pub printed: usize,
@@ -174,7 +174,7 @@ fn byte(
 }
 
 // How far a part of the input was read, where the program stands then, and how much was printed.
-#[derive(Drop)]
+#[derive(Clone, Copy)]
 pub struct Progress {
     pub read: usize,
     pub at: Standing,

@@ -35,7 +35,7 @@ fn relink(w: &mut [u32; State::WORDS], q: usize, before: u32, after: u32, n: u32
 }
 
 // The links on both sides of a place, and how many tasks stand before it.
-#[derive(Drop)]
+#[derive(Clone, Copy)]
 struct Gap {
     before: u32,
     after: u32,

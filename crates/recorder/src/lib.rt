@@ -16,14 +16,14 @@ use language::Line;
 use tape::{MOST_RECORDS, Record};
 
 // The block that is begun: how many records it has, and its number.
-#[derive(Drop)]
+#[derive(Clone, Copy)]
 pub struct Begun {
     pub count: usize,
     pub number: u32,
 }
 
 // Where a line leads: the block that is begun then, and how much is printed.
-#[derive(Drop)]
+#[derive(Clone, Copy)]
 pub struct Turned {
     pub at: Begun,
     pub printed: usize,

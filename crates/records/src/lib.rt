@@ -11,7 +11,7 @@ use tape::Record;
 use verbs::Verb;
 
 // A verb's number and its arguments; spare ones are 0.
-#[derive(Drop)]
+#[derive(Clone, Copy)]
 struct Numbers {
     verb: u8,
     first: u64,

@@ -15,7 +15,7 @@ ghost use Rattle.refusals.specs.Tested.{number_of, refuses, Tested, of_every, of
 use kernel::{Answer, Reply, State, Status, Stop, TaskNo};
 
 // What the rows say.
-#[derive(Drop)]
+#[derive(Clone, Copy)]
 pub enum Verdict {
     Accepts,
     Refuses(i64),

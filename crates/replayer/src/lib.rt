@@ -14,7 +14,7 @@ use kernel::State;
 use tape::Reading;
 
 // Where a replay stands: the number of the block that is awaited, how many answers were the same, whether it goes on, and whether one differed.
-#[derive(Drop)]
+#[derive(Clone, Copy)]
 pub struct Replayed {
     pub number: u32,
     pub index: u64,

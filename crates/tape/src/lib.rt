@@ -23,7 +23,7 @@ pub const MOST_RECORDS: usize = 31;
 const CHECK_AT: usize = 510;
 
 // A call on the tape: its verb's number, two arguments, its answer, and who runs and the clock's remainder behind it.
-#[derive(Drop)]
+#[derive(Clone, Copy)]
 pub struct Record {
     pub verb: u8,
     pub first: u32,
@@ -34,7 +34,7 @@ pub struct Record {
 }
 
 // Why a block is refused.
-#[derive(Drop)]
+#[derive(Clone, Copy)]
 pub enum Fault {
     Short,
     Check,
@@ -44,7 +44,7 @@ pub enum Fault {
 }
 
 // What the reader makes of a block: a refusal, or its number and how many records it has.
-#[derive(Drop)]
+#[derive(Clone, Copy)]
 pub enum Reading {
     Refused(Fault),
     Accepted(u32, usize),

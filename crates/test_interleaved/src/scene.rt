@@ -4,7 +4,7 @@ use kernel::State;
 use test_lines::{number, write};
 
 // The state, and which step of its three each writer is to make.
-#[derive(Drop)]
+#[derive(Clone, Copy)]
 struct Moment {
     state: State,
     a: usize,

@@ -8,7 +8,7 @@ use test_lines::folded;
 use verbs::Verb;
 
 // Of some states: how many are sound, how many a tick answers with -11, and a check number of what the calls give on the others.
-#[derive(Drop)]
+#[derive(Clone, Copy)]
 pub struct Found {
     pub sound: u64,
     pub refused: u64,

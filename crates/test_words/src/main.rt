@@ -12,7 +12,7 @@ fn word(a: u8, b: u8, c: u8, d: u8) -> u32 {
     ((a as u32 * 256 + b as u32) * 256 + c as u32) * 256 + d as u32
 }
 
-#[derive(Drop)]
+#[derive(Clone, Copy)]
 struct Input {
     whole: bool,
     word: u32,

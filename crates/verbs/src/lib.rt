@@ -9,7 +9,7 @@ ghost use Rattle.verbs.specs.Verbs.{verb_of};
 use kernel::{Answer, SemaphoreNo, State, TaskNo};
 
 // The verbs of document 01's scripts, with whatever numbers they are handed.
-#[derive(Drop)]
+#[derive(Clone, Copy)]
 pub enum Verb {
     Tick,
     Hard(u64, u64),
