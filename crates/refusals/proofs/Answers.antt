@@ -13,7 +13,6 @@ use mir.Facts.{to_z_pos}
 use mir.Syntax.{w64}
 use mir.Val.{to_z}
 use borrow.Author.Rules.{rules}
-use borrow.Author.Tests.{not-true, not-false}
 use Rattle.kernel.specs.declared.Answer.{Answer}
 use Rattle.kernel.specs.declared.Answer.TheVariants.{Done, Refused}
 use Rattle.kernel.specs.declared.State.{State}
@@ -117,17 +116,17 @@ pub ruleset behind = (rules, legal, refused, took_effect, numbered, asked_number
 -- ---- the border: b says whether the words are sound
 
 module _ {b : Bool} {s : State} (d : (b ≡ true) ↔ Sound s.words) where
-  pub sound_words : not b ≡ false → Sound s.words
-  sound_words e = d.0 (not-false b e)
+  pub sound_words : b ≡ true → Sound s.words
+  sound_words e = d.0 e
 
   module _ {c : Call} where
     -- Sound words are answered as behind the test.
-    pub sound_answers : {l : Loan} {g : Given} → not b ≡ false → Known c s.words l g → Answered c s l g
+    pub sound_answers : {l : Loan} {g : Given} → b ≡ true → Known c s.words l g → Answered c s l g
     sound_answers {l} {g} e h =
-        record { sound = b; decided = d; gives = subst (λ (z : Bool). Gives (step c (handed z s.words l.memory.bytes)) s.words l g) (sym (not-false b e)) h }
+        record { sound = b; decided = d; gives = subst (λ (z : Bool). Gives (step c (handed z s.words l.memory.bytes)) s.words l g) (sym e) h }
 
     -- Others are refused, with the number that the rows give to a state that is not sound.
-    pub unsound_answers : {n : ℤ} {x : Shown} (l : Loan) → not b ≡ true → first (rows c (handed false s.words l.memory.bytes)) ≡ some n
+    pub unsound_answers : {n : ℤ} {x : Shown} (l : Loan) → b ≡ false → first (rows c (handed false s.words l.memory.bytes)) ≡ some n
         → (effect c (seen s.words) l.memory.bytes).instead ≡ x → Answered c s l (given (reply s.words (Refused n)) l.memory.bytes (handed_back x l))
     unfolding step
     unsound_answers {n} {x} l e row is =
@@ -136,19 +135,19 @@ module _ {b : Bool} {s : State} (d : (b ≡ true) ↔ Sound s.words) where
           decided = d;
           gives = subst
               (λ (o : Option ℤ). Gives (by_table o (effect c (seen s.words) l.memory.bytes) (handed b s.words l.memory.bytes)) s.words l (given (reply s.words (Refused n)) l.memory.bytes (handed_back x l)))
-              (sym row ∙ ap (λ (z : Bool). first (rows c (handed z s.words l.memory.bytes))) (sym (not-true b e)))
+              (sym row ∙ ap (λ (z : Bool). first (rows c (handed z s.words l.memory.bytes))) (sym e))
               (record { answer = refl; state = refl; running = refl; memory = refl; shown = ap (λ (z : Shown). handed_back z l) (sym is) });
         }
 
 -- What a public call answers that is lent no memory. Where the words are not sound, it gives them back.
-pub unlent_unsound : {b : Bool} {c : Call} {s : State} {r : Reply} → (b ≡ true) ↔ Sound s.words → not b ≡ true → r ≡ reply s.words (Refused -11)
+pub unlent_unsound : {b : Bool} {c : Call} {s : State} {r : Reply} → (b ≡ true) ↔ Sound s.words → b ≡ false → r ≡ reply s.words (Refused -11)
     → ((m : List ℕ) → first (rows c (handed false s.words m)) ≡ some -11)
     → ((m : List ℕ) → (effect c (seen s.words) m).instead ≡ nothing)
     → Unlent c s r
 unlent_unsound {c = c} {s} d e is row instead = subst (Unlent c s) (sym is) (λ l. unsound_answers d l e (row l.memory.bytes) (instead l.memory.bytes))
 
 -- Else what is said behind the test.
-pub unlent_known : {b : Bool} {c : Call} {s : State} {r : Reply} {v : List ℕ} {a : Answer} → (b ≡ true) ↔ Sound s.words → not b ≡ false → UnlentKnown c s.words v a → r ≡ reply v a → Unlent c s r
+pub unlent_known : {b : Bool} {c : Call} {s : State} {r : Reply} {v : List ℕ} {a : Answer} → (b ≡ true) ↔ Sound s.words → b ≡ true → UnlentKnown c s.words v a → r ≡ reply v a → Unlent c s r
 unlent_known {c = c} {s} d e h is = subst (Unlent c s) (sym is) (λ l. sound_answers d e (h l))
 
 -- Of a call that is lent a memory: -12 where that has another length, and else -11, whatever the call's own rows are.
@@ -159,14 +158,14 @@ unsound_row w m = go (eqb (length m) memory_size)
     go true = refl
     go false = refl
 
-pub lent_unsound : {b : Bool} {c : Call} {s : State} {m : Slice} {r : Reply} → (b ≡ true) ↔ Sound s.words → not b ≡ true → r ≡ reply s.words (Refused (unsound_number (length m.bytes)))
+pub lent_unsound : {b : Bool} {c : Call} {s : State} {m : Slice} {r : Reply} → (b ≡ true) ↔ Sound s.words → b ≡ false → r ≡ reply s.words (Refused (unsound_number (length m.bytes)))
     → first (rows c (handed false s.words m.bytes)) ≡ first (lent_rows (handed false s.words m.bytes) [])
     → (effect c (seen s.words) m.bytes).instead ≡ nothing
     → Lent c s m r m.bytes
 lent_unsound {c = c} {s} {m} d e is row instead =
     subst (λ (r : Reply). Lent c s m r m.bytes) (sym is) (λ text. unsound_answers d (lent m text) e (row ∙ unsound_row s.words m.bytes) instead)
 
-pub lent_known : {b : Bool} {c : Call} {s : State} {m : Slice} {r : Reply} {v : List ℕ} {a : Answer} {n : List ℕ} → (b ≡ true) ↔ Sound s.words → not b ≡ false → LentKnown c s.words m v a n → r ≡ reply v a
+pub lent_known : {b : Bool} {c : Call} {s : State} {m : Slice} {r : Reply} {v : List ℕ} {a : Answer} {n : List ℕ} → (b ≡ true) ↔ Sound s.words → b ≡ true → LentKnown c s.words m v a n → r ≡ reply v a
     → Lent c s m r n
 lent_known {c = c} {s} {m} {n = n} d e h is = subst (λ (r : Reply). Lent c s m r n) (sym is) (λ text. sound_answers d e (h text))
 
