@@ -24,7 +24,7 @@ pub fn write(memory: &mut [u8], a: usize, bytes: &[u8])
     ensures { memory.new ≡ over memory.old a bytes.now }
 {
     let end = a + bytes.len();
-    bytes::copy(bytes, &mut memory[a..end]);
+    memory[a..end].copy_from_slice(bytes);
 }
 
 // Every byte becomes 0.

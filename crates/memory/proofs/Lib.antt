@@ -1,2 +1,0 @@
--- What is written through a part of the memory.
-pub mod Through
