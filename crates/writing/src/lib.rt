@@ -10,7 +10,7 @@ ghost use Rattle.kernel.specs.Refusals.{first, rows};
 ghost use Rattle.kernel.specs.Seen.{seen};
 ghost use Rattle.kernel.specs.Sound.{Sound};
 ghost use Rattle.kernel.specs.Shows.{Shows};
-ghost use Rattle.kernel.specs.Slices.{slice};
+ghost use Rattle.kernel.specs.Slices.{slice, slice_mut};
 ghost use Rattle.kernel.specs.Promise.{handed, Lent, LentKnown};
 ghost use Rattle.refusals.specs.Tested.{LentRefusal};
 ghost use Rattle.channels.specs.Session.{Holds};
@@ -47,7 +47,7 @@ fn cleared(w: &[u32; State::WORDS], c: usize, memory: &mut [u8]) -> u32
 
 pub fn begin_write_known(w: &mut [u32; State::WORDS], c: usize, memory: &mut [u8]) -> Answer
     requires { Sound w.old }
-    ensures { LentKnown (on_channel (Calls.begin_write c)) w.old (slice memory.entry) w.new result memory.new }
+    ensures { LentKnown (on_channel (Calls.begin_write c)) w.old (slice_mut memory.entry) w.new result memory.new }
 {
     let verdict = may_begin(w, memory.len(), c);
     match verdict {
@@ -63,7 +63,7 @@ pub fn begin_write_known(w: &mut [u32; State::WORDS], c: usize, memory: &mut [u8
 // The running task begins to write: it takes the lowest buffer that is not latest, not read and not being written, whose message bytes
 // become 0.
 pub fn begin_write(s: State, channel: ChannelNo, memory: &mut [u8]) -> Reply
-    ensures { Lent (on_channel (Calls.begin_write channel.0)) s (slice memory.entry) result memory.new }
+    ensures { Lent (on_channel (Calls.begin_write channel.0)) s (slice_mut memory.entry) result memory.new }
 {
     let mut w = s.words;
     if !soundness::sound(&w) {
@@ -109,7 +109,7 @@ pub fn piece_known(
     memory: &mut [u8],
 ) -> Answer
     requires { Sound w.now }
-    ensures { LentKnown (on_channel (Calls.piece c offset bytes.now)) w.now (slice memory.entry) w.now result memory.new }
+    ensures { LentKnown (on_channel (Calls.piece c offset bytes.now)) w.now (slice_mut memory.entry) w.now result memory.new }
 {
     let verdict = may_write(w, memory.len(), c, offset, bytes.len());
     match verdict {
@@ -124,7 +124,7 @@ pub fn piece_known(
 
 // Write these bytes at an offset of the message.
 pub fn piece(s: State, channel: ChannelNo, offset: usize, bytes: &[u8], memory: &mut [u8]) -> Reply
-    ensures { Lent (on_channel (Calls.piece channel.0 offset bytes.now)) s (slice memory.entry) result memory.new }
+    ensures { Lent (on_channel (Calls.piece channel.0 offset bytes.now)) s (slice_mut memory.entry) result memory.new }
 {
     let w = s.words;
     if !soundness::sound(&w) {
