@@ -1,4 +1,3 @@
-pub mod Sign
 pub mod Loops
 pub mod Filled
 pub mod Fields

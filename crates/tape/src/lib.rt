@@ -118,6 +118,7 @@ pub fn put(block: &mut [u8], i: usize, r: Record) -> bool
 }
 
 // The block is closed with the records that were put: it has this number and so many of them.
+#[tactic(auto, unfolding(crate::specs::Writing::closed))]
 pub fn close(block: &mut [u8], number: u32, count: usize) -> bool
     ensures value { result ≡ may_close block.old count }
     ensures block_after { block.new ≡ closed block.old number count }
@@ -264,6 +265,7 @@ fn zeros(block: &[u8], at: usize, n: usize) -> bool
 }
 
 // Reads a block, the first 512 of these bytes, or refuses it by the first test that fails.
+#[tactic(auto, unfolding(crate::specs::Reader::reading))]
 pub fn read(block: &[u8]) -> Reading
     ensures { result ≡ Reader.reading block.now }
 {
