@@ -1,5 +1,5 @@
 -- The code's tests of a channel and of each session on it are the channel's clauses. Assumes nothing.
-use mathlib.Core.Path.{◌≡◌, refl, sym, ◌∙◌}
+use mathlib.Core.Path.{◌≡◌, refl, ap, sym, ◌∙◌}
 use mathlib.Core.Bool.{Bool, true, false, not}
 use mathlib.Core.List.{List}
 use mathlib.Core.Logic.{◌↔◌, ◌⊎◌, inl, inr, ⊎_elim}
@@ -18,11 +18,10 @@ use Rattle.kernel.specs.Status.{status_number}
 use Rattle.kernel.specs.Kernel.{Kernel, task, channel, session, slot_number}
 use Rattle.kernel.specs.Good.{GoodChannel}
 use Rattle.kernel.specs.Seen.{status_in, slot_in, channel_in, seen}
-use Rattle.kernel.proofs.Decided.{passed, refused, Passing, none_passed, one_passes, one_fails, all_pass}
+use Rattle.kernel.proofs.Decided.{refused, Passing, none_passed, one_passes, one_fails, all_pass}
 use Rattle.words.proofs.Seen.{task_seen, channel_seen, session_seen}
 use Rattle.sound_sessions.specs.Channel.{NamesLatest, KeepsChannel}
 use Rattle.sound_sessions.specs.Session.{KeepsSession, Alone, KeptIn}
-use Rattle.sound_sessions.proofs.Buffers.{write_reading}
 
 -- Where there are no buffers, there is no latest and no session.
 no_latest : (l : Latest) → NamesLatest 0 l → l ≡ Nothing
@@ -43,6 +42,10 @@ OneWriter n z = (t u b : ℕ) → t < n → u < n → z t ≡ Write b → z u �
 
 abbrev NotRead : ℕ → (ℕ → Session) → Type 0
 NotRead n z = (t u b : ℕ) → t < n → u < n → z t ≡ Write b → z u ≡ Reading b → ⊥
+
+-- A write is no reading.
+write_reading : {z : Session} (a b : ℕ) → z ≡ Write a → z ≡ Reading b → ⊥
+write_reading a b e p = cc
 
 -- The first says the other two, and they say the first.
 one_writer : (n : ℕ) (z : ℕ → Session) → EachAlone n z → OneWriter n z
@@ -121,14 +124,14 @@ module _ {w : List ℕ} {c t : ℕ} {X : Type 0} (p : Sessions w c t X) where
     tested : (b ≡ true) ↔ KeepsSession (channel (seen w) c) (status_number (task (seen w) t).status) (session (seen w) c t)
     tested = rw (channel_seen w c lc, task_seen w t lt, read, ← is_channel, ← is_status) d
 
-    pub wrong : not b ≡ true → (false ≡ true) ↔ X
-    wrong e = one_fails p.passing lt (λ f. refused tested e f.itself)
+    pub wrong : b ≡ false → (false ≡ true) ↔ X
+    wrong e = one_fails p.passing lt (λ f. refused tested (ap not e) f.itself)
 
-    pub not_alone : {a : ℕ} {b' : Bool} → z ≡ Write a → not b' ≡ true → (b' ≡ true) ↔ Alone task_count (session (seen w) c) t a → (false ≡ true) ↔ X
-    not_alone is e d' = one_fails p.passing lt (λ f. refused d' e (f.alone _ (read ∙ is)))
+    pub not_alone : {a : ℕ} {b' : Bool} → z ≡ Write a → b' ≡ false → (b' ≡ true) ↔ Alone task_count (session (seen w) c) t a → (false ≡ true) ↔ X
+    not_alone is e d' = one_fails p.passing lt (λ f. refused d' (ap not e) (f.alone _ (read ∙ is)))
 
-    pub one_kept : not b ≡ false → ((a : ℕ) → z ≡ Write a → Alone task_count (session (seen w) c) t a) → Sessions w c (t + 1) X
-    one_kept e alone = record { passing = one_passes p.passing (record { itself = passed tested e; alone = λ a is. alone a (sym read ∙ is) }) }
+    pub one_kept : b ≡ true → ((a : ℕ) → z ≡ Write a → Alone task_count (session (seen w) c) t a) → Sessions w c (t + 1) X
+    one_kept e alone = record { passing = one_passes p.passing (record { itself = tested.0 e; alone = λ a is. alone a (sym read ∙ is) }) }
 
 pub ruleset sessions = (rules, none_kept, all_kept, wrong, not_alone)
 
@@ -149,14 +152,14 @@ module _ {w : List ℕ} {c : ℕ} {X : Type 0} (p : Channels w c X) where
     record_tested : (b ≡ true) ↔ KeepsChannel (channel (seen w) c)
     record_tested = rw (channel_seen w c l, ← is) d
 
-    pub record_wrong : not b ≡ true → (false ≡ true) ↔ X
-    record_wrong e = one_fails p.passing l (λ f. refused record_tested e (channel_kept _ c f))
+    pub record_wrong : b ≡ false → (false ≡ true) ↔ X
+    record_wrong e = one_fails p.passing l (λ f. refused record_tested (ap not e) (channel_kept _ c f))
 
     module _ {b' : Bool} (d' : (b' ≡ true) ↔ ((t : ℕ) → t < task_count → KeptIn (seen w) c t)) where
-      pub sessions_wrong : not b' ≡ true → (false ≡ true) ↔ X
-      sessions_wrong e = one_fails p.passing l (λ f. refused d' e (sessions_kept _ c f))
+      pub sessions_wrong : b' ≡ false → (false ≡ true) ↔ X
+      sessions_wrong e = one_fails p.passing l (λ f. refused d' (ap not e) (sessions_kept _ c f))
 
-      pub one_good : not b ≡ false → not b' ≡ false → Channels w (c + 1) X
-      one_good e e' = record { passing = one_passes p.passing (good_channel _ c (passed record_tested e) (passed d' e')) }
+      pub one_good : b ≡ true → b' ≡ true → Channels w (c + 1) X
+      one_good e e' = record { passing = one_passes p.passing (good_channel _ c (record_tested.0 e) (d'.0 e')) }
 
 pub ruleset channels = (rules, none_good, all_good, record_wrong, sessions_wrong, one_good)

@@ -1,4 +1,2 @@
 -- What the tests of the code mean, and that together they are the clauses.
-pub mod Buffers
-pub mod Session
 pub mod Channel
