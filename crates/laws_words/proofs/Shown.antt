@@ -22,7 +22,7 @@ use Rattle.kernel.specs.declared.Class.TheVariants.{Nrt, Hard}
 use Rattle.kernel.specs.declared.Session.TheVariants.{Closed}
 use Rattle.kernel.specs.Sizes.{task_count, semaphore_count, channel_count, most_buffers}
 use Rattle.kernel.specs.Status.{queue_count, stop_number}
-use Rattle.kernel.specs.Kernel.{Kernel, task, queue, semaphore, channel, session, slot, slot_number, blank, unused_semaphore, unused_channel}
+use Rattle.kernel.specs.Kernel.{Kernel, task, queue, semaphore, channel, slot, slot_number, blank, unused_semaphore, unused_channel}
 use Rattle.kernel.specs.Good.{Good, Opens, Fits, standing, Queued}
 use Rattle.kernel.proofs.Decided.{either}
 use Rattle.kernel.proofs.Places.{numbered}
