@@ -1,9 +1,0 @@
--- The rows of end, and then its work. Assumes nothing.
-use Rattle.kernel.specs.Calls.{effect}
-use Rattle.refusals.proofs.Answers.{behind}
-use Rattle.endings.proofs.end_known.Statement.{statement}
-use Rattle.endings.proofs.end_known.Tie as tie
-
-pub end_known_spec : {M : Type 1} → statement M
-unfolding effect
-end_known_spec = tie.close (tie.spec (λ c κs. search behind) (λ c. search behind) (λ c κs. search behind) (λ c. search behind) (λ c κs. search behind) (λ c. search behind) (λ c. search behind))
