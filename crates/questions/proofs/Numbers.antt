@@ -26,9 +26,6 @@ status_most Zombie = omega arith
 pub status_small : (n : ℕ) (a : Status) → n ≡ status_number a → n < 9223372036854775808
 status_small n a e = omega (arith, status_most a)
 
-pub status_fits : (n : ℕ) (a : Status) → n ≡ status_number a → SFits w64 (pos n)
-status_fits n a e = sfits_of (status_small n a e)
-
 -- A difference lies no farther from 0 than the sum.
 difference : (a b : ℕ) → mag (pos a -ℤ pos b) ≤ a + b
 difference a zero = omega arith

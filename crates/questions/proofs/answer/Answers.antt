@@ -1,0 +1,12 @@
+-- A refusal, or the number. Assumes nothing.
+use Rattle.std.proofs.Common.{◌≡◌, refl, rules, w64, to_z, of_z}
+use Rattle.refusals.specs.Tested.{answering}
+use Rattle.questions.proofs.answer.Goals as goal
+
+pub returns-in-Refuses : goal.returns-in-Refuses
+unfolding answering
+returns-in-Refuses c = rw (c.refuse.ensures, c.in-Refuses.is) refl
+
+pub returns-in-Accepts : goal.returns-in-Accepts
+unfolding answering
+returns-in-Accepts c = let bits : to_z w64 (of_z w64 c.args.number) ≡ c.args.number = search rules in rw (bits, c.in-Accepts.is) refl
