@@ -5,10 +5,12 @@ ghost use Rattle.std.specs.Prelude.{◌<◌};
 ghost use Rattle.test_lines.specs.Check.{prime};
 
 use kernel::{Answer, Reply, State};
-use libc::STDOUT_FILENO;
+
+// The descriptor of the standard output.
+const STDOUT: i32 = 1;
 
 pub fn write(text: &[u8]) {
-    io::write_all(STDOUT_FILENO, text);
+    io::write_all(STDOUT, text);
 }
 
 pub fn title(text: &[u8]) {
@@ -18,7 +20,7 @@ pub fn title(text: &[u8]) {
 }
 
 pub fn number(n: u64) {
-    io::print_decimal(STDOUT_FILENO, n);
+    io::print_decimal(STDOUT, n);
 }
 
 pub fn signed(n: i64) {
