@@ -101,16 +101,7 @@ pub no_call_taken : (line : List ℕ) (k : Kept) (paper : List ℕ) (printed : �
 unfolding turn
 no_call_taken line k paper printed none = record { text = []; put = nothing paper printed; short = omega arith; keeps = λ s h. rw none h; prints = λ s h. rw none refl }
 
--- No block is begun.
-pub none_finished : (k : Kept) (paper : List ℕ) (printed : ℕ) → k.at.count ≡ 0 → Finished recorder Kept Keeps k paper printed paper printed
-none_finished k paper printed none =
-    record { text = []; put = nothing paper printed; short = omega arith; prints = of_kept {k = k} (λ s. [] ≡ last_block s.number s.begun) no_block }
-  where
-    no_block : (begun : List Record) → Holds k.block begun → k.at.count ≡ length begun → [] ≡ last_block k.at.number begun
-    no_block [] h c = refl
-    no_block (r ∷ rs) h c = absurd (omega arith)
-
--- One is, and it goes out.
+-- A block that is begun goes out.
 pub last_finished : (k : Kept) {paper b' paper' : List ℕ} {printed n : ℕ} → Ready k → (k.at.count ≡ 0 → ⊥) → b' ≡ closed k.block k.at.number k.at.count → Continued paper printed b' paper' n
     → Finished recorder Kept Keeps k paper printed paper' n
 last_finished k {b' = b'} ready some e c =
