@@ -1,4 +1,4 @@
-// The programs' exchanges with C: standard input, in blocks, to standard output. Only `exchange` and `print` call C; what is made of its answers is in `respond` and `onward`.
+// The programs' exchanges with C: standard input, in blocks, to standard output. Only `read`, `print` and the message of `exchange` call C; what is made of its answers is in `respond` and `onward`.
 #![tactic(auto)]
 
 ghost use Rattle.std.specs.Prelude.{◌≡◌, ◌≤◌, length};
@@ -7,9 +7,9 @@ ghost use Rattle.programs.specs.Programs.{Ready, kept, desk};
 ghost use Rattle.console.specs.Exchange.{longest_block, Responds, stands, Exchange, Ran};
 
 use kernel::State;
-use libc::{STDERR_FILENO, STDIN_FILENO, STDOUT_FILENO};
 use pieces::LONGEST;
 use programs::{Program, Standing};
+use std::io::{Read, Write};
 
 // The longest block that is read at once, and the paper that is written at once.
 pub const LONGEST_BLOCK: usize = 8192;
@@ -38,10 +38,10 @@ struct Printed {
     whole: bool,
 }
 
-fn print(text: &[u8]) -> Printed
+fn print(rt: &HostRuntime, text: &[u8]) -> Printed
     ensures { result.bytes ≡ length text.now }
 {
-    let whole = io::write_all(STDOUT_FILENO, text);
+    let whole = rt.stdout().write_all(text).is_ok();
     Printed {
         bytes: text.len(),
         whole,
@@ -50,6 +50,7 @@ fn print(text: &[u8]) -> Printed
 
 // Reads the bytes of a block and writes what they print, paper after paper, as long as C takes all that it is handed.
 fn respond(
+    rt: &HostRuntime,
     p: Program,
     w: &mut [u32; State::WORDS],
     piece: &mut [u8],
@@ -75,7 +76,7 @@ fn respond(
         at = next;
         read += f.read;
         let k = f.printed;
-        let out = print(&paper[..k]);
+        let out = print(rt, &paper[..k]);
         printed += out.bytes;
         whole = out.whole;
     }
@@ -99,8 +100,19 @@ fn onward(came: usize, r: Response) -> Between
     }
 }
 
+// What a read answered: how many bytes came, or -1 where it failed.
+fn read(rt: &HostRuntime, input: &mut [u8]) -> isize
+    requires { length input.old ≤ longest_block }
+{
+    match rt.stdin().read(input) {
+        Ok(n) => n as isize,
+        Err(_) => -1,
+    }
+}
+
 // Reads once, and writes what that printed.
 fn exchange(
+    rt: &HostRuntime,
     p: Program,
     w: &mut [u32; State::WORDS],
     piece: &mut [u8],
@@ -116,12 +128,12 @@ fn exchange(
     ensures ready { Ready (kept w.new block.new result.at) }
     ensures exchange { Exchange p (desk w.old block.old from piece.old) result (desk w.new block.new result.at piece.new) input.new }
 {
-    let got = libc::read(STDIN_FILENO, input);
+    let got = read(rt, input);
     if got < 0 {
-        io::write_all(STDERR_FILENO, b"standard input cannot be read\n");
+        let _ = rt.stderr().write_all(b"standard input cannot be read\n");
     }
     let came = io::count(got, input);
-    let r = respond(p, w, piece, block, from, &input[..came], paper);
+    let r = respond(rt, p, w, piece, block, from, &input[..came], paper);
     onward(came, r)
 }
 
@@ -134,13 +146,13 @@ pub struct Ending {
 }
 
 // The whole program: the title, exchange behind exchange, and what the end of the input prints. The words stay where they are.
-fn serve(p: Program, input: &mut [u8]) -> Ending
+fn serve(rt: &HostRuntime, p: Program, input: &mut [u8]) -> Ending
     requires { length input.old ≤ longest_block }
     ensures { Ran p result }
 {
     let mut paper = [0u8; LONGEST_BLOCK];
     let n = programs::title(p, &mut paper);
-    let title = print(&paper[..n]);
+    let title = print(rt, &paper[..n]);
     let mut piece = [0u8; LONGEST];
     let mut block = [0u8; LONGEST];
     let fresh = State::fresh();
@@ -154,12 +166,14 @@ fn serve(p: Program, input: &mut [u8]) -> Ending
     let mut spare = u64::MAX;
     while at.further && spare > 0 {
         let from = at.at;
-        at = exchange(p, &mut w, &mut piece, &mut block, from, input, &mut paper);
+        at = exchange(
+            rt, p, &mut w, &mut piece, &mut block, from, input, &mut paper,
+        );
         spare -= 1;
     }
     let last = at.at;
     let n = programs::end(p, &mut w, &piece, &mut block, last, &mut paper);
-    let end = print(&paper[..n]);
+    let end = print(rt, &paper[..n]);
     Ending {
         at,
         paper,
@@ -168,12 +182,12 @@ fn serve(p: Program, input: &mut [u8]) -> Ending
 }
 
 // The block is what is read at once, no more than its first 8,192 bytes. An empty one has room for no byte, so nothing is read.
-pub fn run(p: Program, input: &mut [u8]) -> Ending
+pub fn run(rt: &HostRuntime, p: Program, input: &mut [u8]) -> Ending
     ensures { Ran p result }
 {
     if input.len() <= LONGEST_BLOCK {
-        serve(p, input)
+        serve(rt, p, input)
     } else {
-        serve(p, &mut input[..LONGEST_BLOCK])
+        serve(rt, p, &mut input[..LONGEST_BLOCK])
     }
 }

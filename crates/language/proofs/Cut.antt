@@ -6,12 +6,28 @@ use Prim.Native.Nat.{ℕ, suc, ◌+◌, ◌-◌, ◌<◌, ◌≤◌}
 use native.Mathlib.Numerals.{add-one}
 use native.Mathlib.Omega.{arith}
 use lib.Dec.{eqb}
-use lib.ListN.{length, take, drop, get_or, length-drop, length-append}
-use lib.Seq.{take_all, split_at, take-append_seam, drop-append-add}
-use borrow.Author.Tests.{lt-ltb, le-ltb, ltb-true, eqb-true}
-use Rattle.bytes.specs.Bytes.{index_of, index_after}
+use lib.ListN.{length, take, drop, get_or, length-drop, length-append, drop_of_length-le}
+use lib.Seq.{take_all, split_at, take-append_seam, drop-append-add, drop-cons}
+use borrow.Author.Tests.{lt-ltb, le-ltb, ltb-true, eqb-true, ne_eqb}
 use Rattle.language.specs.declared.Line.{Line}
-use Rattle.language.specs.Meaning.{space, before, behind, has_space}
+use Rattle.language.specs.Meaning.{index_of, index_after, space, before, behind, has_space}
+
+-- The search for the space: it is not among the i bytes passed.
+module _ (l : List ℕ) (i : ℕ) (passed : space l ≡ i + space (drop i l)) where
+  next : i < length l → drop i l ≡ get_or l i 0 ∷ drop (i + 1) l
+  next h = rw add-one (drop-cons l i 0 h)
+
+  pub here : i < length l → get_or l i 0 ≡ 32 → i ≡ space l
+  unfolding index_of index_after
+  here h e = rw (passed, next h, e) (omega arith)
+
+  pub not_here : i < length l → (get_or l i 0 ≡ 32 → ⊥) → space l ≡ i + 1 + space (drop (i + 1) l)
+  unfolding index_of index_after
+  not_here h e = rw (passed, next h, ne_eqb (get_or l i 0) 32 e) (omega arith)
+
+  pub nowhere : length l ≤ i → i ≤ length l → length l ≡ space l
+  unfolding index_of
+  nowhere h k = rw (passed, drop_of_length-le l {i = i} h) (omega arith)
 
 -- A space was found at k, or none was.
 module _ (l : List ℕ) (k : ℕ) (found : k ≡ space l) where

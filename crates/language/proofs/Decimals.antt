@@ -7,13 +7,12 @@ use native.Mathlib.Omega.{arith}
 use lib.Dec.{leb}
 use lib.ListN.{length}
 use borrow.Author.Tests.{ne_eqb}
-use Rattle.bytes.specs.Bytes.{index_of, index_after}
 use Rattle.kernel.proofs.Decided.{either}
 use Rattle.text.specs.Text.{value}
 use Rattle.language.specs.declared.Number.{Number}
 use Rattle.language.specs.declared.Number.TheVariants.{NoNumber, Is}
 use Rattle.language.specs.Language.{Digits, Decimal}
-use Rattle.language.specs.Meaning.{number_from, number_of}
+use Rattle.language.specs.Meaning.{index_of, index_after, number_from, number_of}
 use Rattle.language.proofs.Between.{between, inside}
 use Rattle.language.proofs.Cut.{Word}
 

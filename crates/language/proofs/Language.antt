@@ -7,7 +7,6 @@ use mathlib.Core.Option.{some}
 use Prim.Native.Nat.{ℕ}
 use Prim.Native.String.{String}
 use native.Mathlib.Omega.{arith}
-use Rattle.bytes.specs.Bytes.{index_of, index_after}
 use Rattle.kernel.specs.Channels.{same_bytes}
 use Rattle.kernel.specs.Calls.{Verb, tick, create_hard, create_nrt, activate, sleep, cycle, end, kill, new_semaphore, delete, wait, signal, Call, verb, question, on_channel}
 use Rattle.kernel.proofs.Decided.{either}
@@ -18,7 +17,7 @@ use Rattle.language.specs.declared.Number.TheVariants.{NoNumber, Is}
 use Rattle.language.specs.declared.Line.{Line}
 use Rattle.language.specs.declared.Line.TheVariants.{NoCall, Asks}
 use Rattle.language.specs.Language.{With, WithTwo, SpellsVerb, Spells}
-use Rattle.language.specs.Meaning.{call_of, sought, alone, number_of, with_one, with_number, with_two, hard, followed, before, behind, has_space, meaning}
+use Rattle.language.specs.Meaning.{index_of, index_after, call_of, sought, alone, number_of, with_one, with_number, with_two, hard, followed, before, behind, has_space, meaning}
 use Rattle.language.proofs.Words.{same_equal, sought_has}
 use Rattle.language.proofs.Cut.{Word, joined, cut_behind}
 use Rattle.language.proofs.Decimals.{Spelt, spelt, is_read, digits_word}

@@ -1,13 +1,11 @@
 -- What a line means, computed: it is cut at its first space, and the verb before it says what must follow. Assumes nothing.
-use Rattle.std.specs.Prelude.{Bool, cond, ◌&&◌, List, [], ◌∷◌, ℕ, ◌+◌, ◌-◌, ◌*◌, leb, ltb, length, take, drop}
+use Rattle.std.specs.Prelude.{Bool, true, false, cond, ◌&&◌, List, [], ◌∷◌, ℕ, suc, ◌+◌, ◌-◌, ◌*◌, eqb, leb, ltb, length, take, drop}
 use Rattle.std.proofs.Math.Option.{Option, none, some}
 use Prim.Native.String.{String}
-use Rattle.bytes.specs.Bytes.{index_of}
 use Rattle.kernel.specs.Channels.{same_bytes}
 use Rattle.kernel.specs.Calls.{Call, verb}
 use Rattle.text.specs.Text.{bytes}
 use Rattle.verbs.specs.declared.Verb.{Verb}
-use Rattle.verbs.specs.declared.Verb.TheVariants as Verb
 use Rattle.verbs.specs.Verbs.{verb_of}
 use Rattle.language.specs.declared.Number.{Number}
 use Rattle.language.specs.declared.Number.TheVariants.{NoNumber, Is}
@@ -59,6 +57,15 @@ abbrev pub with_two : Number → Number → Line
 with_two NoNumber c = NoCall
 with_two (Is p) NoNumber = NoCall
 with_two (Is p) (Is c) = Asks (Verb.Hard p c)
+
+-- Where the byte b stands first; the length where it stands nowhere.
+unfoldable pub index_after : Bool → ℕ → ℕ
+index_after true k = 0
+index_after false k = suc k
+
+unfoldable pub index_of : ℕ → List ℕ → ℕ
+index_of b [] = 0
+index_of b (x ∷ xs) = index_after (eqb x b) (index_of b xs)
 
 -- Where the first space of a line stands; its length where there is none.
 abbrev pub space : List ℕ → ℕ

@@ -107,7 +107,12 @@ fn with_two(period: Number, cost: Number) -> Line
 fn space(line: &[u8]) -> usize
     ensures { result ≡ Meaning.space line.now }
 {
-    bytes::scan::find(line, 0, line.len(), b' ')
+    for (i, b) in line.iter().enumerate() {
+        if *b == b' ' {
+            return i;
+        }
+    }
+    line.len()
 }
 
 fn hard(numbers: &[u8]) -> Line

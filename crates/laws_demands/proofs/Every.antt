@@ -6,7 +6,7 @@ use mathlib.Core.List.{List, []}
 use mathlib.Core.Option.{Option, none, some}
 use Prim.Native.Nat.{ℕ}
 use lib.IntN.{ℤ, pos}
-use denote.Ref.{Bor}
+use denote.Ref.{Bor, MutBor}
 use Rattle.kernel.specs.declared.Answer.TheVariants.{Done, Refused}
 use Rattle.kernel.specs.declared.State.{State}
 use Rattle.kernel.specs.declared.Reply.{Reply}
@@ -30,9 +30,12 @@ use Rattle.laws_demands.specs.Functions.{Made, tick, create_hard, create_nrt, ac
 use Rattle.laws_demands.specs.Every.{GivenBy}
 use Rattle.laws_demands.proofs.Functions.{anywhere}
 
--- A reference to this value, and one to this slice.
+-- A reference to this value, one through which the code may write it, and one to this slice.
 abbrev to : {X : Type 0} → X → Bor X
 to x = record { ref_ptr = (0, 0); now = x }
+
+abbrev to_mut : {X : Type 0} → X → MutBor X
+to_mut x = record { ref_ptr = (0, 0); ghost_name = 0; now = x }
 
 abbrev to_slice : Slice → Bor (List ℕ)
 to_slice x = record { ref_ptr = x.place; now = x.bytes }
@@ -116,16 +119,16 @@ module _ (s : State) (m : List ℕ) where
 
     -- One that shows the message on channel n or, refused, the slice x.
     shows : (n : ℕ) (other : Shown) (x : Slice) → does c ≡ showed n other (seen w) m
-        → ((g : Bor (List ℕ)) (mark : Bor Bool) (number : Bor ℤ)
+        → ((g : Bor (List ℕ)) (mark : MutBor Bool) (number : MutBor ℤ)
         → ((text : Slice) → handed_back other (with_text text) ≡ some x → Showing c s (anywhere m) text (slice g) mark.now number.now)
         → Made s m (reply w (answer_of mark.now number.now)) c m (some g.now))
         → GivenBy s m c
     shows n other x is made = go (judged c) refl
       where
         go : (o : Option ℤ) → judged c ≡ o → GivenBy s m c
-        go (some y) e = given (made (to_slice x) (to true) (to y) (λ text due. answered e is (record { answer = refl; state = refl; running = refl; memory = refl; shown = sym due })))
+        go (some y) e = given (made (to_slice x) (to_mut true) (to_mut y) (λ text due. answered e is (record { answer = refl; state = refl; running = refl; memory = refl; shown = sym due })))
         go none e =
-            given (made (to_slice (held_message s n (with_text (anywhere [])))) (to false) (to (pos 0))
+            given (made (to_slice (held_message s n (with_text (anywhere [])))) (to_mut false) (to_mut (pos 0))
             (λ text due. answered e is (record { answer = refl; state = itself (kept (passed c e)); running = refl; memory = refl; shown = refl })))
 
   -- **every_call**: whatever the state, the call and the bytes of the memory, there is a reply that the function's contract permits.
@@ -149,8 +152,8 @@ module _ (s : State) (m : List ℕ) where
   every_call (question (Calls.period x)) = unlent refl refl (λ r. period (record { 0 = x }))
   every_call (question (Calls.slack x)) = unlent refl refl (λ r. slack (record { 0 = x }))
   every_call (on_channel (Calls.open_channel size buffers)) = unlent refl refl (λ r. open_channel size buffers)
-  every_call (on_channel (Calls.begin_write x)) = writes refl (λ r n. begin_write ([], tt) (record { 0 = x }) (to m) (to n) refl)
-  every_call (on_channel (Calls.piece x a bs)) = writes refl (λ r n. piece ([], ([], tt)) (record { 0 = x }) a (to bs) (to m) (to n) refl)
+  every_call (on_channel (Calls.begin_write x)) = writes refl (λ r n. begin_write ([], tt) (record { 0 = x }) (to_mut m) (to_mut n) refl)
+  every_call (on_channel (Calls.piece x a bs)) = writes refl (λ r n. piece ([], ([], tt)) (record { 0 = x }) a (to bs) (to_mut m) (to_mut n) refl)
   every_call (on_channel (Calls.put x)) = reads refl (λ r. put ([], tt) (record { 0 = x }) (to m) refl)
   every_call (on_channel (Calls.begin_reading x)) = reads refl (λ r. begin_reading ([], tt) (record { 0 = x }) (to m) refl)
   every_call (on_channel (Calls.showing x)) =

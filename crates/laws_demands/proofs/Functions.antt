@@ -8,7 +8,7 @@ use Rattle.kernel.specs.declared.Answer.{Answer}
 use Rattle.kernel.specs.declared.State.{State}
 use Rattle.kernel.specs.declared.Reply.{Reply}
 use Rattle.kernel.specs.Calls.{Call}
-use Rattle.kernel.specs.Slices.{Slice, slice}
+use Rattle.kernel.specs.Slices.{Slice, slice, slice_mut}
 use Rattle.kernel.specs.Promise.{Loan, Answered, Unlent, Lent, answer_of, reply}
 use Rattle.laws_runs.specs.Trace.{asks, instead}
 use Rattle.laws_demands.specs.Functions.{Made, tick, create_hard, create_nrt, activate, sleep, cycle, end, kill, new_semaphore, delete, wait, signal, clock, status, deadline, period, slack, open_channel, begin_write, piece, put, begin_reading, showing, close, screen}
@@ -40,10 +40,10 @@ module _ {s : State} {m : List ℕ} {r : Reply} where
       record { loan = l; given = none; answered = p l; lent = refl; text = sym e; shown_is = refl }
 
   -- One that is lent the memory.
-  lent : {c : Call} (memory : Bor (List ℕ)) (left : List ℕ) → instead (asks c) ≡ [] → memory.now ≡ m → Lent c s (slice memory) r left → Promised s m r c left none
+  lent : {c : Call} (memory : Slice) (left : List ℕ) → instead (asks c) ≡ [] → memory.bytes ≡ m → Lent c s memory r left → Promised s m r c left none
   lent memory left e held p =
       record {
-        loan = record { memory = slice memory; standby = anywhere [] };
+        loan = record { memory = memory; standby = anywhere [] };
         given = none;
         answered = p (anywhere []);
         lent = held;
@@ -53,7 +53,7 @@ module _ {s : State} {m : List ℕ} {r : Reply} where
 
   -- One that only reads it.
   reads : {c : Call} (memory : Bor (List ℕ)) → instead (asks c) ≡ [] → memory.now ≡ m → Lent c s (slice memory) r memory.now → Promised s m r c m none
-  reads {c} memory e held p = lent memory m e held (subst (Lent c s (slice memory) r) held p)
+  reads {c} memory e held p = lent (slice memory) m e held (subst (Lent c s (slice memory) r) held p)
 
   -- One that hands back a slice, and its answer through references.
   shows : {c : Call} (memory given : Bor (List ℕ)) (text : Slice) (a : Answer) → text.bytes ≡ instead (asks c) → memory.now ≡ m → r ≡ reply s.words a
@@ -90,8 +90,8 @@ module _ {s : State} {m : List ℕ} {r : Reply} where
   promised (period n p) = unlent refl p
   promised (slack n p) = unlent refl p
   promised (open_channel a b p) = unlent refl p
-  promised (begin_write κ n memory left e p) = lent memory left.now refl e p
-  promised (piece κ n a bs memory left e p) = lent memory left.now refl e p
+  promised (begin_write κ n memory left e p) = lent (slice_mut memory) left.now refl e p
+  promised (piece κ n a bs memory left e p) = lent (slice_mut memory) left.now refl e p
   promised (put κ n memory e p) = reads memory refl e p
   promised (begin_reading κ n memory e p) = reads memory refl e p
   promised (close κ n memory e p) = reads memory refl e p

@@ -1,7 +1,7 @@
 -- The public functions, each by its own contract as it stands in its crate. Assumes nothing.
 use Rattle.std.specs.Prelude.{◌≡◌, Bool, List, ℕ, ℤ}
 use Rattle.std.proofs.Math.Option.{Option, none, some}
-use Rattle.std.specs.Borrow.{Bor}
+use Rattle.std.specs.Borrow.{Bor, MutBor}
 use contract.Lifetimes.{Lfts}
 use Rattle.kernel.specs.declared.State.{State}
 use Rattle.kernel.specs.declared.Reply.{Reply}
@@ -58,9 +58,9 @@ pub data Made (s : State) (m : List ℕ) (r : Reply) : Call → (left : List ℕ
   period : (n : TaskNo) → Period tt (s, (n, tt)) r (s, (n, tt)) → Made s m r (question (Calls.period n.0)) m none
   slack : (n : TaskNo) → Slack tt (s, (n, tt)) r (s, (n, tt)) → Made s m r (question (Calls.slack n.0)) m none
   open_channel : (size buffers : ℕ) → OpenChannel tt (s, (size, (buffers, tt))) r (s, (size, (buffers, tt))) → Made s m r (on_channel (Calls.open_channel size buffers)) m none
-  begin_write : (κ : Lfts 1) (n : ChannelNo) (memory left : Bor (List ℕ)) → memory.now ≡ m → BeginWrite κ (s, (n, (memory, tt))) r (s, (n, (left, tt)))
+  begin_write : (κ : Lfts 1) (n : ChannelNo) (memory left : MutBor (List ℕ)) → memory.now ≡ m → BeginWrite κ (s, (n, (memory, tt))) r (s, (n, (left, tt)))
       → Made s m r (on_channel (Calls.begin_write n.0)) left.now none
-  piece : (κ : Lfts 2) (n : ChannelNo) (offset : ℕ) (bytes memory left : Bor (List ℕ)) → memory.now ≡ m
+  piece : (κ : Lfts 2) (n : ChannelNo) (offset : ℕ) (bytes : Bor (List ℕ)) (memory left : MutBor (List ℕ)) → memory.now ≡ m
       → Piece κ (s, (n, (offset, (bytes, (memory, tt))))) r (s, (n, (offset, (bytes, (left, tt))))) → Made s m r (on_channel (Calls.piece n.0 offset bytes.now)) left.now none
   put : (κ : Lfts 1) (n : ChannelNo) (memory : Bor (List ℕ)) → memory.now ≡ m → Put κ (s, (n, (memory, tt))) r (s, (n, (memory, tt)))
       → Made s m r (on_channel (Calls.put n.0)) m none
@@ -69,9 +69,9 @@ pub data Made (s : State) (m : List ℕ) (r : Reply) : Call → (left : List ℕ
   close : (κ : Lfts 1) (n : ChannelNo) (memory : Bor (List ℕ)) → memory.now ≡ m → Close κ (s, (n, (memory, tt))) r (s, (n, (memory, tt)))
       → Made s m r (on_channel (Calls.close n.0)) m none
   -- These two hand back a slice, and the answer through references; the state stays.
-  showing : (κ : Lfts 3) (n : ChannelNo) (memory given : Bor (List ℕ)) (refused mark : Bor Bool) (number told : Bor ℤ) → memory.now ≡ m
+  showing : (κ : Lfts 3) (n : ChannelNo) (memory given : Bor (List ℕ)) (refused mark : MutBor Bool) (number told : MutBor ℤ) → memory.now ≡ m
       → Showing κ (s, (n, (memory, (refused, (number, tt))))) given (s, (n, (memory, (mark, (told, tt))))) → r ≡ reply s.words (answer_of mark.now told.now)
       → Made s m r (on_channel (Calls.showing n.0)) m (some given.now)
-  screen : (κ : Lfts 3) (n : ChannelNo) (memory standby given : Bor (List ℕ)) (refused mark : Bor Bool) (number told : Bor ℤ) → memory.now ≡ m
+  screen : (κ : Lfts 3) (n : ChannelNo) (memory standby given : Bor (List ℕ)) (refused mark : MutBor Bool) (number told : MutBor ℤ) → memory.now ≡ m
       → Screen κ (s, (n, (memory, (standby, (refused, (number, tt)))))) given (s, (n, (memory, (standby, (mark, (told, tt))))))
       → r ≡ reply s.words (answer_of mark.now told.now) → Made s m r (on_channel (Calls.screen n.0 standby.now)) m (some given.now)

@@ -28,7 +28,6 @@ use Rattle.kernel.proofs.Decided.{either}
 use Rattle.kernel.proofs.Lowest.{found}
 use Rattle.laws_effects.specs.UnderWay.{Freeing, Ticking}
 use Rattle.laws_effects.proofs.Standing.{stands}
-use Rattle.laws_effects.proofs.Steady.{exe}
 use Rattle.laws_effects.proofs.Changed.{each}
 use Rattle.laws_effects.proofs.Sweep.{Acts, also, all_swept}
 use Rattle.laws_effects.proofs.Tick.{each_tick}

@@ -9,8 +9,10 @@ mod runs;
 ghost use Rattle.std.specs.Prelude.{◌≤◌};
 ghost use Rattle.pace.specs.Room.{room};
 
-use libc::STDIN_FILENO;
 use packed::Packed;
+
+// Standard input.
+const STDIN: i32 = 0;
 
 const KNOWN: u64 = 1000;
 
@@ -32,9 +34,9 @@ fn show(order: &[u8], script: Packed, tested: bool, times: u64)
 
 fn main() {
     let mut order = [0u8; 1];
-    io::read_full(STDIN_FILENO, &mut order);
+    io::read_full(STDIN, &mut order);
     let mut text = [0u8; 60000];
-    let n = io::read_full(STDIN_FILENO, &mut text);
+    let n = io::read_full(STDIN, &mut text);
     let script = packed::pack(&text[..n]);
     if order[0] == b'k' {
         show(b"k: ", script, false, KNOWN);

@@ -1,5 +1,5 @@
 // A script's calls, packed.
-ghost use Rattle.std.specs.Prelude.{◌≤◌, ◌<◌};
+ghost use Rattle.std.specs.Prelude.{◌≤◌, ◌<◌, length};
 ghost use Rattle.pace.specs.Room.{room};
 
 use language::Line;
@@ -41,6 +41,19 @@ fn counted(n: usize, more: bool) -> usize
     n
 }
 
+// Where the line that begins at `at` ends: at its newline, or with the text.
+fn line_end(text: &[u8], at: usize) -> usize
+    requires { at ≤ length text.now }
+    ensures behind { at ≤ result }
+    ensures within { result ≤ length text.now }
+{
+    let mut end = at;
+    while end < text.len() && text[end] != b'\n' {
+        end += 1;
+    }
+    end
+}
+
 pub fn pack(text: &[u8]) -> Packed
     ensures { result.count ≤ room }
 {
@@ -52,7 +65,7 @@ pub fn pack(text: &[u8]) -> Packed
     let mut count: usize = 0;
     let mut at: usize = 0;
     while at < text.len() && count < ROOM {
-        let end = bytes::scan::find(text, at, text.len(), b'\n');
+        let end = line_end(text, at);
         let asked = read(&text[at..end]);
         calls[count] = asked;
         count = counted(count, asked.is);

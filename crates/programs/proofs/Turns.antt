@@ -4,7 +4,7 @@ use mathlib.Core.List.{List, []}
 use Prim.Native.Nat.{ℕ, ◌<◌}
 use native.Mathlib.Omega.{arith}
 use lib.ListN.{length}
-use Rattle.bytes.specs.Bytes.{index_of, index_after}
+use Rattle.language.specs.Meaning.{index_of, index_after}
 use Rattle.kernel.specs.Kernel.{Kernel}
 use Rattle.kernel.specs.Sound.{Sound}
 use Rattle.kernel.specs.Channels.{same_bytes}

@@ -1,6 +1,6 @@
 -- Document 01's script and its whole output, byte for byte, computed on the definitions. Assumes nothing.
 use Rattle.std.specs.Prelude.{◌≡◌, refl, List, ℕ}
-use Rattle.bytes.specs.Bytes.{index_of, index_after}
+use Rattle.language.specs.Meaning.{index_of, index_after}
 use Rattle.kernel.specs.Sizes.{fitting}
 use Rattle.kernel.specs.Kernel.{share, lowest}
 use Rattle.kernel.specs.Moves.{move, dispatch, preempt, schedule}

@@ -3,7 +3,7 @@
 
 use programs::Program;
 
-fn main() {
+fn main(rt: HostRuntime) {
     let mut block = [0u8; 1];
-    console::run(Program::Dick, &mut block);
+    console::run(&rt, Program::Dick, &mut block);
 }

@@ -3,7 +3,7 @@
 
 use programs::Program;
 
-fn main() {
+fn main(rt: HostRuntime) {
     let mut block = [0u8; console::LONGEST_BLOCK];
-    console::run(Program::Dick, &mut block);
+    console::run(&rt, Program::Dick, &mut block);
 }

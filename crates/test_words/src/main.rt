@@ -5,7 +5,9 @@
 mod flips;
 
 use kernel::State;
-use libc::STDIN_FILENO;
+
+// Standard input.
+const STDIN: i32 = 0;
 
 // Four bytes are a word.
 fn word(a: u8, b: u8, c: u8, d: u8) -> u32 {
@@ -20,7 +22,7 @@ struct Input {
 
 fn read_word() -> Input {
     let mut bytes = [0u8; 4];
-    let whole = io::read_full(STDIN_FILENO, &mut bytes) == 4;
+    let whole = io::read_full(STDIN, &mut bytes) == 4;
     Input {
         whole,
         word: word(bytes[0], bytes[1], bytes[2], bytes[3]),
