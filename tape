@@ -30,7 +30,7 @@ rt=$(command -v rt) || {
 }
 mkdir -p "$root/target" && cd "$root/crates/$crate" || exit 2
 
-# rt builds a program where it runs it, here on the crate's own input. The log is kept whole; a crate that is checked is a line on standard error.
+# rt builds a program where it runs it, here on an empty input. The log is kept whole; a crate that is checked is a line on standard error.
 status=$({ { "$rt" run </dev/null 2>&1; echo $? >&3; } | tee "$log" | sed -n 's/^rt: chose --jobs [0-9]* for \([a-z_]*\)$/checking \1/p' >&2; } 3>&1)
 if [ "$status" != 0 ] || [ ! -x "out/$crate" ]; then
     echo "$name: it is not proved, or not built: $log says why" >&2

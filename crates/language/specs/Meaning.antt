@@ -58,11 +58,12 @@ with_two NoNumber c = NoCall
 with_two (Is p) NoNumber = NoCall
 with_two (Is p) (Is c) = Asks (Verb.Hard p c)
 
--- Where the byte b stands first; the length where it stands nowhere.
+-- An index one byte later: 0 where that byte is the one that is sought.
 unfoldable pub index_after : Bool → ℕ → ℕ
 index_after true k = 0
 index_after false k = suc k
 
+-- Where the byte b stands first; the length where it stands nowhere.
 unfoldable pub index_of : ℕ → List ℕ → ℕ
 index_of b [] = 0
 index_of b (x ∷ xs) = index_after (eqb x b) (index_of b xs)
