@@ -157,7 +157,8 @@ fn byte(
     ensures { Fed p b (desk w.old block.old at piece.old) (desk w.new block.new result.at piece.new) paper.old printed paper.new result.printed }
 {
     if by_lines(p) {
-        if b == b'\n' {
+        let newline = b == b'\n';
+        if newline {
             return ended(p, w, piece, at.begun, block, at, paper, printed);
         }
         let mut next = at;
@@ -274,7 +275,8 @@ pub fn end(
     ensures prefix_len { IsPrefixLen result paper.new }
     ensures ends { Ends p (desk w.old block.old at piece.now) (take result paper.new) }
 {
-    if at.begun == 0 {
+    let none_begun = at.begun == 0;
+    if none_begun {
         return finish(p, w, block, at, paper, 0);
     }
     let t = ended(p, w, piece, at.begun, block, at, paper, 0);

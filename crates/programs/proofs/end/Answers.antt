@@ -3,8 +3,8 @@ use Rattle.programs.specs.Programs.{desk}
 use Rattle.programs.proofs.Ending.{none_ends, piece_ends}
 use Rattle.programs.proofs.end.Goals as goal
 
-pub returns-then-at-eq0-clause-ends : goal.returns-then-at-eq0-clause-ends
-returns-then-at-eq0-clause-ends c = none_ends {p = c.args.p} (desk c.args.w.now c.args.block.now c.args.at c.args.piece.now) c.if-at-eq0.true c.finish.ensures
+pub returns-then-none_begun-clause-ends : goal.returns-then-none_begun-clause-ends
+returns-then-none_begun-clause-ends c = none_ends {p = c.args.p} (desk c.args.w.now c.args.block.now c.args.at c.args.piece.now) c.if-none_begun.true c.finish.ensures
 
 pub returns-clause-ends : goal.returns-clause-ends
-returns-clause-ends c = piece_ends {p = c.args.p} (desk c.args.w.now c.args.block.now c.args.at c.args.piece.now) c.if-at-eq0.false c.requires.piece_size c.ended-t.ensures c.finish-2.ensures
+returns-clause-ends c = piece_ends {p = c.args.p} (desk c.args.w.now c.args.block.now c.args.at c.args.piece.now) c.if-none_begun.false c.requires.piece_size c.ended-t.ensures c.finish-2.ensures
