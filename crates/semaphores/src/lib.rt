@@ -46,7 +46,8 @@ fn lowest(w: &[u32; State::WORDS]) -> usize
 {
     let mut n: usize = 0;
     while n < State::SEMAPHORES {
-        if no_semaphore(w, n) {
+        let found = no_semaphore(w, n);
+        if found {
             return n;
         }
         n += 1;

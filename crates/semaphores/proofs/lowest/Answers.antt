@@ -16,12 +16,12 @@ unused w n l e = sym (rw (lt-leb semaphore_count n l) at e)
 pub loop-n-init : goal.loop-n-init
 loop-n-init c = begins
 
-pub returns-then-no_semaphore : goal.returns-then-no_semaphore
+pub returns-then-found : goal.returns-then-found
 unfolding lowest_semaphore
-returns-then-no_semaphore c = sym (stops c.loop-n.invariant c.loop-n-test.true (unused c.args.w.now c.loop-n.n c.loop-n-test.true c.no_semaphore.ensures ∙ c.if-no_semaphore.true))
+returns-then-found c = sym (stops c.loop-n.invariant c.loop-n-test.true (unused c.args.w.now c.loop-n.n c.loop-n-test.true c.no_semaphore-found.ensures ∙ c.if-found.true))
 
 pub loop-n-preserved : goal.loop-n-preserved
-loop-n-preserved c = goes_on c.loop-n.invariant c.loop-n-test.true (unused c.args.w.now c.loop-n.n c.loop-n-test.true c.no_semaphore.ensures ∙ c.if-no_semaphore.false)
+loop-n-preserved c = goes_on c.loop-n.invariant c.loop-n-test.true (unused c.args.w.now c.loop-n.n c.loop-n-test.true c.no_semaphore-found.ensures ∙ c.if-found.false)
 
 pub returns : goal.returns
 unfolding lowest_semaphore
