@@ -16,8 +16,8 @@ use Rattle.kernel.specs.declared.Status.TheVariants.{Free, Sleep, Exe, Ready, Id
 use Rattle.kernel.specs.declared.Stop.{Stop}
 use Rattle.kernel.specs.declared.Stop.TheVariants.{Going, Overrun, Lifetime}
 use Rattle.kernel.specs.declared.Semaphore.{Semaphore}
-use Rattle.kernel.specs.declared.Latest.{Latest}
-use Rattle.kernel.specs.declared.Latest.TheVariants.{Nothing, Buffer}
+use Rattle.std.specs.Prelude.{None, Some}
+use Rattle.std.specs.declared.option.Option.{Option}
 use Rattle.kernel.specs.declared.Session.{Session}
 use Rattle.kernel.specs.declared.Session.TheVariants.{Closed, Write, Reading}
 use Rattle.kernel.specs.Sizes.{task_count, semaphore_count, most_buffers}
@@ -158,12 +158,12 @@ semaphore_read a z = go a.used a.count z
 
 pub latest_kept : (n : ℕ) → latest_code (latest_of n) ≡ n
 unfolding latest_of
-latest_kept = one_more Nothing (λ m. Buffer m) (λ a. latest_code a) refl (λ m. refl)
+latest_kept = one_more None (λ m. Some m) (λ a. latest_code a) refl (λ m. refl)
 
-pub latest_read : (a : Latest) → latest_of (latest_code a) ≡ a
+pub latest_read : (a : Option ℕ) → latest_of (latest_code a) ≡ a
 unfolding latest_of
-latest_read Nothing = refl
-latest_read (Buffer b) = rw (ne_eqb (b + 1) 0 (λ e. omega arith)) (ap (λ (n : ℕ). Buffer n) (omega arith))
+latest_read None = refl
+latest_read (Some b) = rw (ne_eqb (b + 1) 0 (λ e. omega arith)) (ap (λ (n : ℕ). Some n) (omega arith))
 
 -- ---- sessions
 

@@ -8,7 +8,7 @@ use native.Mathlib.Omega.{arith}
 use lib.ListN.{get_or, set, replicate}
 use Rattle.laws_chain.specs.Filing.{Queue}
 use Rattle.kernel.specs.declared.Channel.{Channel}
-use Rattle.kernel.specs.declared.Latest.TheVariants.{Buffer}
+use Rattle.std.specs.Prelude.{Some}
 use Rattle.kernel.specs.declared.Session.TheVariants.{Closed}
 use Rattle.kernel.specs.declared.Slot.{Slot}
 use Rattle.kernel.specs.Sizes.{task_count, semaphore_count, channel_count, lifetime}
@@ -114,7 +114,7 @@ module _ (n : ℕ) where
         put_first = λ t b h e. absurd (no_open t b (inr e));
       }
     where
-      no_put : (b : ℕ) → (channel fresh c).latest ≡ Buffer b → ⊥
+      no_put : (b : ℕ) → (channel fresh c).latest ≡ Some b → ⊥
       no_put b e =
           let none = ap (λ (x : Channel). x.latest) (no_channel c) in
           let w : ◌≡◌ {A = ℕ} 0 1 = cc in

@@ -1,5 +1,5 @@
 -- What a word means, whatever it is, and the word that stands for a thing. Assumes nothing.
-use Rattle.std.specs.Prelude.{◌≡◌, true, cond, ℕ, ◌+◌, ◌-◌, ℤ, pos, eqb, ltb}
+use Rattle.std.specs.Prelude.{◌≡◌, true, cond, ℕ, ◌+◌, ◌-◌, ℤ, pos, eqb, ltb, None, Some}
 use Rattle.laws_chain.specs.Chain.{end, target}
 use Rattle.kernel.specs.declared.Class.{Class}
 use Rattle.kernel.specs.declared.Class.TheVariants.{Nrt, Hard}
@@ -8,8 +8,7 @@ use Rattle.kernel.specs.declared.Status.TheVariants.{Free, Sleep, Exe, Ready, Id
 use Rattle.kernel.specs.declared.Stop.{Stop}
 use Rattle.kernel.specs.declared.Stop.TheVariants.{Going, Overrun, Lifetime}
 use Rattle.kernel.specs.declared.Semaphore.{Semaphore}
-use Rattle.kernel.specs.declared.Latest.{Latest}
-use Rattle.kernel.specs.declared.Latest.TheVariants.{Nothing, Buffer}
+use Rattle.std.specs.declared.option.Option.{Option}
 use Rattle.kernel.specs.declared.Session.{Session}
 use Rattle.kernel.specs.declared.Session.TheVariants.{Closed, Write, Reading}
 use Rattle.kernel.specs.Sizes.{most_buffers}
@@ -78,12 +77,12 @@ semaphore_code a = cond a.used (a.count + 1) 0
 
 -- ---- the latest buffer: 0 where nothing was put, and else one more than its number
 
-unfoldable pub latest_of : ℕ → Latest
-latest_of n = cond (eqb n 0) Nothing (Buffer (n - 1))
+unfoldable pub latest_of : ℕ → Option ℕ
+latest_of n = cond (eqb n 0) None (Some (n - 1))
 
-abbrev pub latest_code : Latest → ℕ
-latest_code Nothing = 0
-latest_code (Buffer b) = b + 1
+abbrev pub latest_code : Option ℕ → ℕ
+latest_code None = 0
+latest_code (Some b) = b + 1
 
 -- ---- a session: 0 closed, from 1 on a write of buffer 0, 1, .., and behind the last buffer's a reading of buffer 0, 1, ..
 

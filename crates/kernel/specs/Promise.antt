@@ -1,12 +1,10 @@
 -- The promise of a public call. Assumes nothing.
-use Rattle.std.specs.Prelude.{◌≡◌, Bool, true, false, ◌↔◌, List, ℕ, ℤ}
+use Rattle.std.specs.Prelude.{◌≡◌, Bool, true, false, ◌↔◌, List, ℕ}
 use Rattle.std.proofs.Math.Option.{Option, none, some}
-use Rattle.kernel.specs.declared.Answer.{Answer}
-use Rattle.kernel.specs.declared.Answer.TheVariants.{Done, Refused}
 use Rattle.kernel.specs.declared.TaskNo.{TaskNo}
 use Rattle.kernel.specs.declared.State.{State}
 use Rattle.kernel.specs.declared.Reply.{Reply}
-use Rattle.kernel.specs.Answer.{said}
+use Rattle.kernel.specs.Answer.{Answer, said}
 use Rattle.kernel.specs.Kernel.{Kernel}
 use Rattle.kernel.specs.Calls.{Call, Shown, nothing, part, standby}
 use Rattle.kernel.specs.Refusals.{Handed}
@@ -82,18 +80,13 @@ given r n x = record { reply = r; memory = n; shown = x }
 abbrev pub Lent : Call → State → Slice → Reply → List ℕ → Type 0
 Lent c s memory r n = (text : Slice) → Answered c s (lent memory text) (given r n none)
 
--- A showing leaves state and memory as they are, so that only its answer comes back beside the slice: whether it is a refusal, and the number.
-abbrev pub answer_of : Bool → ℤ → Answer
-answer_of true n = Refused n
-answer_of false n = Done n
-
 -- The reply of these words and this answer.
 abbrev pub reply : List ℕ → Answer → Reply
 reply v a = record { state = record { words = v }; answer = a; running = runs v }
 
--- The memory and a stand-by text; the slice r, the mark of a refusal and the number n come back.
-abbrev pub Showing : Call → State → Slice → Slice → Slice → Bool → ℤ → Type 0
-Showing c s memory text r refused n = Answered c s (lent memory text) (given (reply s.words (answer_of refused n)) memory.bytes (some r))
+-- The memory and a stand-by text. A showing leaves state and memory as they are, so that only the answer a comes back beside the slice r.
+abbrev pub Showing : Call → State → Slice → Slice → Answer → Slice → Type 0
+Showing c s memory text a r = Answered c s (lent memory text) (given (reply s.words a) memory.bytes (some r))
 
 -- ---- behind the test: the same of words w that are known to be sound, in place; they are v then
 
@@ -106,5 +99,5 @@ UnlentKnown c w v a = (l : Loan) → Known c w l (unlent (reply v a) l)
 abbrev pub LentKnown : Call → List ℕ → Slice → List ℕ → Answer → List ℕ → Type 0
 LentKnown c w memory v a n = (text : Slice) → Known c w (lent memory text) (given (reply v a) n none)
 
-abbrev pub ShowingKnown : Call → List ℕ → Slice → Slice → Slice → Bool → ℤ → Type 0
-ShowingKnown c w memory text r refused n = Known c w (lent memory text) (given (reply w (answer_of refused n)) memory.bytes (some r))
+abbrev pub ShowingKnown : Call → List ℕ → Slice → Slice → Answer → Slice → Type 0
+ShowingKnown c w memory text a r = Known c w (lent memory text) (given (reply w a) memory.bytes (some r))

@@ -4,6 +4,7 @@
 ghost use Rattle.std.specs.Prelude.{◌≡◌, ◌+◌, ◌*◌, ◌≤◌};
 ghost use Rattle.kernel.specs.Status.{status_number, stop_number, waiting, queue_of};
 ghost use Rattle.kernel.specs.Sizes.{fitting};
+ghost use Rattle.kernel.specs.Answer.{refusal_number};
 ghost use Rattle.kernel.specs.Layout.{word_count};
 ghost use Rattle.kernel.specs.Kernel.{period_of};
 ghost use Rattle.kernel.specs.Fresh.{with_none, fresh_state};
@@ -51,19 +52,12 @@ pub struct Semaphore {
     pub count: u32,
 }
 
-// The buffer of the last message put.
-#[derive(Clone, Copy)]
-pub enum Latest {
-    Nothing,
-    Buffer(u32),
-}
-
-// Size 0 says that the channel is unused.
+// Size 0 says that the channel is unused. The latest is the buffer of the last message put, if any was.
 #[derive(Clone, Copy)]
 pub struct Channel {
     pub size: u32,
     pub buffers: u32,
-    pub latest: Latest,
+    pub latest: Option<u32>,
 }
 
 // A task's session on a channel, with its buffer.
@@ -92,12 +86,37 @@ pub struct State {
     pub words: [u32; State::WORDS],
 }
 
-// Slack -3 is Done(-3), refusal -3 is Refused(-3).
-#[derive(Clone, Copy)]
-pub enum Answer {
-    Done(i64),
-    Refused(i64),
+// Why a call is refused, with the document's number.
+#[derive(Clone, Copy, Debug, PartialEq, Eq)]
+pub enum Refusal {
+    TimeOverflow = -1,
+    TimeExpired = -2,
+    NoGuarantee = -3,
+    NoTask = -4,
+    NoSemaphore = -5,
+    NoSuchNumber = -6,
+    OutsideSizes = -7,
+    NotAllowed = -8,
+    WrongStatus = -9,
+    NoRoom = -10,
+    NotSound = -11,
+    WrongMemory = -12,
+    NothingPut = -13,
+    WrongSession = -14,
+    TooSoon = -15,
 }
+
+impl Refusal {
+    // The document's number.
+    pub fn number(self) -> i64
+        ensures { result ≡ refusal_number self }
+    {
+        self as i64
+    }
+}
+
+// Slack -3 is Ok(-3), refusal -3 is Err(Refusal::NoGuarantee).
+pub type Answer = Result<i64, Refusal>;
 
 // What a call gives back: the next state, the answer and the running task.
 #[derive(Clone, Copy)]
@@ -199,39 +218,6 @@ impl Channel {
     pub const LATEST: usize = 2;
 
     pub const WORDS: usize = 3;
-}
-
-// Refusal numbers.
-impl State {
-    pub const TIME_OVERFLOW: i64 = -1;
-
-    pub const TIME_EXPIRED: i64 = -2;
-
-    pub const NO_GUARANTEE: i64 = -3;
-
-    pub const NO_TASK: i64 = -4;
-
-    pub const NO_SEMAPHORE: i64 = -5;
-
-    pub const NO_SUCH_NUMBER: i64 = -6;
-
-    pub const OUTSIDE_SIZES: i64 = -7;
-
-    pub const NOT_ALLOWED: i64 = -8;
-
-    pub const WRONG_STATUS: i64 = -9;
-
-    pub const NO_ROOM: i64 = -10;
-
-    pub const NOT_SOUND: i64 = -11;
-
-    pub const WRONG_MEMORY: i64 = -12;
-
-    pub const NOTHING_PUT: i64 = -13;
-
-    pub const WRONG_SESSION: i64 = -14;
-
-    pub const TOO_SOON: i64 = -15;
 }
 
 // -1 in so many words: the first at `from`, and each `step` behind the one before.
