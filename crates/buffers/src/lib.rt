@@ -4,12 +4,12 @@
 ghost use Rattle.std.specs.Prelude.{◌≡◌, ◌||◌, ◌<◌};
 ghost use Rattle.kernel.specs.Sizes.{task_count, channel_count, most_buffers};
 ghost use Rattle.kernel.specs.Channels as Channels;
-ghost use Rattle.kernel.specs.Channels.{is_closed, is_write, is_reading, put_before, with_own, is_latest, reads, writes, some_session, free_buffer, lowest_buffer, lowest_channel};
+ghost use Rattle.kernel.specs.Channels.{with_own, is_latest, reads, writes, some_session, free_buffer, lowest_buffer, lowest_channel};
 ghost use Rattle.kernel.specs.Refusals.{no_channel};
 ghost use Rattle.kernel.specs.Seen.{seen};
 ghost use Rattle.kernel.specs.Shows.{Kept, Shows};
 
-use kernel::{Latest, Session, State};
+use kernel::{Session, State};
 
 // Whether a channel number is out of range, or unused.
 pub fn no_channel(w: &[u32; State::WORDS], c: usize) -> bool
@@ -38,37 +38,6 @@ pub fn lowest_channel(w: &[u32; State::WORDS]) -> usize
 }
 
 // ---- sessions
-
-// The kind of a session.
-pub fn is_closed(z: Session) -> bool
-    ensures { result ≡ is_closed z }
-{
-    match z {
-        Session::Closed => true,
-        Session::Write(_) => false,
-        Session::Reading(_) => false,
-    }
-}
-
-pub fn is_write(z: Session) -> bool
-    ensures { result ≡ is_write z }
-{
-    match z {
-        Session::Closed => false,
-        Session::Write(_) => true,
-        Session::Reading(_) => false,
-    }
-}
-
-pub fn is_reading(z: Session) -> bool
-    ensures { result ≡ is_reading z }
-{
-    match z {
-        Session::Closed => false,
-        Session::Write(_) => false,
-        Session::Reading(_) => true,
-    }
-}
 
 // The buffer of a session, 0 where it is closed.
 pub fn buffer(z: Session) -> u32
@@ -108,34 +77,11 @@ pub fn with_own(w: &mut [u32; State::WORDS], c: usize, z: Session)
 
 // ---- buffers
 
-// Whether anything was put.
-pub fn put_before(l: Latest) -> bool
-    ensures { result ≡ put_before l }
-{
-    match l {
-        Latest::Nothing => false,
-        Latest::Buffer(_) => true,
-    }
-}
-
-// The buffer of the latest message, 0 where nothing was put.
-pub fn newest(l: Latest) -> u32
-    ensures { result ≡ Channels.newest l }
-{
-    match l {
-        Latest::Nothing => 0,
-        Latest::Buffer(b) => b,
-    }
-}
-
 // Whether buffer b is the latest.
-fn is_latest(l: Latest, b: u32) -> bool
-    ensures { result ≡ is_latest l b }
+fn is_latest(latest: Option<u32>, b: u32) -> bool
+    ensures { result ≡ is_latest latest b }
 {
-    match l {
-        Latest::Nothing => false,
-        Latest::Buffer(x) => x == b,
-    }
+    latest == Some(b)
 }
 
 // Whether a session reads buffer b or is writing it.

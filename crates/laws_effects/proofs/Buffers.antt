@@ -6,7 +6,7 @@ use native.Mathlib.Omega.{arith}
 use native.Mathlib.Decide.{ℕ_discrete}
 use lib.ListN.{length-set, set}
 use Rattle.kernel.specs.declared.Channel.{Channel}
-use Rattle.kernel.specs.declared.Latest.TheVariants.{Nothing, Buffer}
+use Rattle.std.specs.Prelude.{None, Some}
 use Rattle.kernel.specs.declared.Session.{Session}
 use Rattle.kernel.specs.declared.Session.TheVariants.{Closed, Write, Reading}
 use Rattle.kernel.specs.Sizes.{task_count, channel_count, longest_message, fewest_buffers, most_buffers}
@@ -20,8 +20,8 @@ use Rattle.laws_effects.proofs.Sessions.{busy, fewer, channels_steady}
 -- What a channel with the record h asks of a session: its buffer is one of the channel's, a writer's is not the latest, and nothing is read before the first put.
 abbrev pub Suits : Channel → Session → Type 0
 Suits h Closed = Unit {0}
-Suits h (Write b) = (b < h.buffers) × (h.latest ≡ Buffer b → ⊥)
-Suits h (Reading b) = (b < h.buffers) × (h.latest ≡ Nothing → ⊥)
+Suits h (Write b) = (b < h.buffers) × (h.latest ≡ Some b → ⊥)
+Suits h (Reading b) = (b < h.buffers) × (h.latest ≡ None → ⊥)
 
 -- What one task's session asks of another's: the buffer of a writer is no other's.
 abbrev pub Apart : Session → Session → Type 0
@@ -50,7 +50,7 @@ write_reading p q = let clash : ◌≡◌ {A = ℕ} 0 1 = cc in omega arith
 pub record Grant (k : Kernel) (c : ℕ) (h : Channel) (t : ℕ) (z : Session) : Type 0 where
   pub size : (1 ≤ h.size) × (h.size ≤ longest_message)
   pub buffers : (fewest_buffers ≤ h.buffers) × (h.buffers ≤ most_buffers)
-  pub latest : (b : ℕ) → h.latest ≡ Buffer b → b < h.buffers
+  pub latest : (b : ℕ) → h.latest ≡ Some b → b < h.buffers
   pub in_use : (status_number (task k t).status ≡ FREE → ⊥) × (status_number (task k t).status ≡ ZOMBIE → ⊥)
   pub own : Suits h z
   pub others : (u : ℕ) → u < task_count → (u ≡ t → ⊥) → Suits h (session k c u)

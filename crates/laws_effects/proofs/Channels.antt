@@ -9,8 +9,8 @@ use lib.Seq.{set-get_or}
 use lib.Dec.{eqb}
 use borrow.Author.Tests.{eqb-true}
 use Rattle.kernel.specs.declared.Channel.{Channel}
-use Rattle.kernel.specs.declared.Latest.{Latest}
-use Rattle.kernel.specs.declared.Latest.TheVariants.{Nothing, Buffer}
+use Rattle.std.specs.declared.option.Option.{Option}
+use Rattle.std.specs.Prelude.{None, Some}
 use Rattle.kernel.specs.declared.Session.{Session}
 use Rattle.kernel.specs.declared.Session.TheVariants.{Closed, Write, Reading}
 use Rattle.kernel.specs.declared.Slot.{Slot}
@@ -27,7 +27,7 @@ use Rattle.laws_effects.proofs.Free.{free_latest, free_session}
 use Rattle.laws_effects.proofs.Buffers.{Suits, Apart, suits, Grant, granted}
 
 -- Something was put, or nothing.
-pub put_or_not : {x : Latest} {b : ℕ} → x ≡ Nothing → x ≡ Buffer b → ⊥
+pub put_or_not : {x : Option ℕ} {b : ℕ} → x ≡ None → x ≡ Some b → ⊥
 put_or_not p q = let clash : ◌≡◌ {A = ℕ} 0 1 = cc in omega arith
 
 module _ {k : Kernel} (g : Good k) (going : stop_number k.stop ≡ 0) where
@@ -47,7 +47,7 @@ module _ {k : Kernel} (g : Good k) (going : stop_number k.stop ≡ 0) where
       let c = lowest_channel k in
       let r = found channel_count (λ x. eqb (channel k x).size 0) some in
       let none = ((g.channels c r.0).unused (eqb-true (channel k c).size 0 r.1)).sessions in
-      let h : Channel = record { size = n; buffers = b; latest = Nothing } in
+      let h : Channel = record { size = n; buffers = b; latest = None } in
       subst (λ (zs : List Slot). Good (with_channel (with_sessions k zs) c h)) (set-get_or k.sessions (slot_number c k.running) (slot Closed))
       (grant c h (own k c) r.0
       (record {
@@ -62,7 +62,7 @@ module _ {k : Kernel} (g : Good k) (going : stop_number k.stop ≡ 0) where
 
   -- A channel in use keeps its sizes.
   module _ (c : ℕ) (used : ChannelInUse k c) where
-    abbrev with_latest : Latest → Channel
+    abbrev with_latest : Option ℕ → Channel
     with_latest x = record { size = (channel k c).size; buffers = (channel k c).buffers; latest = x }
 
     a : GoodChannel k c
@@ -72,7 +72,7 @@ module _ {k : Kernel} (g : Good k) (going : stop_number k.stop ≡ 0) where
     sizes = a.used (omega (arith, used.1))
 
     -- The latest becomes x.
-    renewed : (x : Latest) (z : Session) → ((b : ℕ) → x ≡ Buffer b → b < (channel k c).buffers) → Suits (with_latest x) z
+    renewed : (x : Option ℕ) (z : Session) → ((b : ℕ) → x ≡ Some b → b < (channel k c).buffers) → Suits (with_latest x) z
         → ((u : ℕ) → u < task_count → (u ≡ k.running → ⊥) → Suits (with_latest x) (session k c u))
         → ((u : ℕ) → u < task_count → (u ≡ k.running → ⊥) → Apart z (session k c u)) → Good (with_channel (with_own k c z) c (with_latest x))
     renewed x z latest own others apart =
@@ -105,9 +105,9 @@ module _ {k : Kernel} (g : Good k) (going : stop_number k.stop ≡ 0) where
     unfolding begin_reading
     begin_reading_good = go (channel k c).latest refl
       where
-        go : (x : Latest) → (channel k c).latest ≡ x → put_before x ≡ true → Good (with_own k c (Reading (newest x)))
-        go Nothing e p = absurd (false≢true p)
-        go (Buffer b) e p = kept (Reading b) (a.latest b e, λ n. put_or_not n e) (λ u l ne w. a.not_latest u b l w e)
+        go : (x : Option ℕ) → (channel k c).latest ≡ x → put_before x ≡ true → Good (with_own k c (Reading (newest x)))
+        go None e p = absurd (false≢true p)
+        go (Some b) e p = kept (Reading b) (a.latest b e, λ n. put_or_not n e) (λ u l ne w. a.not_latest u b l w e)
 
     pub close_good : Good (close c k)
     unfolding close
@@ -118,14 +118,14 @@ module _ {k : Kernel} (g : Good k) (going : stop_number k.stop ≡ 0) where
     unfolding put
     put_good = go (own k c) refl
       where
-        still : {b : ℕ} → own k c ≡ Write b → (u : ℕ) → u < task_count → (u ≡ k.running → ⊥) → (y : Session) → session k c u ≡ y → Suits (channel k c) y → Suits (with_latest (Buffer b)) y
+        still : {b : ℕ} → own k c ≡ Write b → (u : ℕ) → u < task_count → (u ≡ k.running → ⊥) → (y : Session) → session k c u ≡ y → Suits (channel k c) y → Suits (with_latest (Some b)) y
         still e u l ne Closed p s = tt
         still e u l ne (Write x) p s = (s.0, λ z. ne (a.one_writer u k.running x l runs p (cc)))
         still e u l ne (Reading x) p s = (s.0, λ z. put_or_not z refl)
 
-        go : (z : Session) → own k c ≡ z → is_write z ≡ true → Good (with_channel (with_own k c Closed) c (with_latest (Buffer (buffer z))))
+        go : (z : Session) → own k c ≡ z → is_write z ≡ true → Good (with_channel (with_own k c Closed) c (with_latest (Some (buffer z))))
         go Closed e w = absurd (false≢true w)
         go (Reading b) e w = absurd (false≢true w)
         go (Write b) e w =
-            renewed (Buffer b) Closed (λ x p. let y : b ≡ x = cc in omega (arith, (a.sessions k.running b runs (inl e)).named)) tt
+            renewed (Some b) Closed (λ x p. let y : b ≡ x = cc in omega (arith, (a.sessions k.running b runs (inl e)).named)) tt
             (λ u l ne. still e u l ne (session k c u) refl (suits a u l)) (λ u l ne. tt)

@@ -17,8 +17,8 @@ use Rattle.kernel.specs.declared.Class.TheVariants.{Nrt, Hard}
 use Rattle.kernel.specs.declared.Status.{Status}
 use Rattle.kernel.specs.declared.Status.TheVariants.{Free, Sleep, Exe, Ready, Idle, Zombie, Wait}
 use Rattle.kernel.specs.declared.Semaphore.{Semaphore}
-use Rattle.kernel.specs.declared.Latest.{Latest}
-use Rattle.kernel.specs.declared.Latest.TheVariants.{Nothing, Buffer}
+use Rattle.std.specs.declared.option.Option.{Option}
+use Rattle.std.specs.Prelude.{None, Some}
 use Rattle.kernel.specs.declared.Session.{Session}
 use Rattle.kernel.specs.declared.Session.TheVariants.{Closed, Write, Reading}
 use Rattle.kernel.specs.Sizes.{task_count, semaphore_count, channel_count, fitting, last_priority}
@@ -149,15 +149,15 @@ closed? Closed = yes refl
 closed? (Write b) = no (λ e. clash cc)
 closed? (Reading b) = no (λ e. clash cc)
 
-nothing? : (l : Latest) → Dec (l ≡ Nothing)
-nothing? Nothing = yes refl
-nothing? (Buffer b) = no (λ e. clash cc)
+nothing? : (l : Option ℕ) → Dec (l ≡ None)
+nothing? None = yes refl
+nothing? (Some b) = no (λ e. clash cc)
 
 -- A clause on the buffer that is named, whichever it is: it is the one that stands there.
 module _ {P : ℕ → Type 0} (d : (b : ℕ) → Dec (P b)) where
-  latest? : (l : Latest) → Dec ((b : ℕ) → l ≡ Buffer b → P b)
-  latest? Nothing = yes (λ b e. absurd (clash cc))
-  latest? (Buffer a) = map_dec (λ p b e. let w : a ≡ b = cc in subst P w p) (λ f. f a refl) (d a)
+  latest? : (l : Option ℕ) → Dec ((b : ℕ) → l ≡ Some b → P b)
+  latest? None = yes (λ b e. absurd (clash cc))
+  latest? (Some a) = map_dec (λ p b e. let w : a ≡ b = cc in subst P w p) (λ f. f a refl) (d a)
 
   writes? : (z : Session) → Dec ((b : ℕ) → z ≡ Write b → P b)
   writes? Closed = yes (λ b e. absurd (clash cc))
@@ -195,7 +195,7 @@ channel? k c =
     part (λ r t l b. r.sessions t b l) (each_below task_count (λ t. opens? (λ b. session? (status_number (task k t).status) b h.buffers) (z t))) λ sessions.
     part (λ r t l b p u m a q e. r.one_writer t u b l m p (q ∙ ap Write e))
     (each_below task_count (λ t. writes? (λ b. each_below task_count (λ u. writes? (λ a. where_so (ℕ_discrete a b) (ℕ_discrete t u)) (z u))) (z t))) λ one_writer.
-    part (λ r t l b p a q e. r.not_latest t b l p (q ∙ ap Buffer e)) (each_below task_count (λ t. writes? (λ b. latest? (λ a. other a b) h.latest) (z t))) λ not_latest.
+    part (λ r t l b p a q e. r.not_latest t b l p (q ∙ ap Some e)) (each_below task_count (λ t. writes? (λ b. latest? (λ a. other a b) h.latest) (z t))) λ not_latest.
     part (λ r t l b p u m a q e. r.not_read t u b l m p (q ∙ ap Reading e))
     (each_below task_count (λ t. writes? (λ b. each_below task_count (λ u. reads? (λ a. other a b) (z u))) (z t))) λ not_read.
     part (λ r t l b. r.put_first t b l) (each_below task_count (λ t. reads? (λ b. where_so (nothing? h.latest) never) (z t))) λ put_first.

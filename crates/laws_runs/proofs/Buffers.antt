@@ -9,7 +9,7 @@ use lib.ListN.{length, take, drop, get_or-eq_default}
 use lib.Dec.{eqb}
 use borrow.Author.Tests.{eqb-true}
 use Rattle.kernel.specs.declared.Channel.{Channel}
-use Rattle.kernel.specs.declared.Latest.TheVariants.{Buffer}
+use Rattle.std.specs.Prelude.{Some}
 use Rattle.kernel.specs.declared.Session.TheVariants.{Closed}
 use Rattle.kernel.specs.Sizes.{task_count, channel_count, most_buffers, longest_message, memory_size}
 use Rattle.kernel.specs.Kernel.{Kernel, channel, session, unused_channel, slot}
@@ -55,9 +55,9 @@ module _ {k : Kernel} (g : Good k) where
       go c l (no ne) = let u = (g.channels c l).used (omega arith) in (u.size, u.most)
 
   -- The latest buffer, and that of a session, is a buffer.
-  pub latest_buffer : (c b : ℕ) → (channel k c).latest ≡ Buffer b → b < most_buffers
+  pub latest_buffer : (c b : ℕ) → (channel k c).latest ≡ Some b → b < most_buffers
   latest_buffer =
-      every_number (λ c. (b : ℕ) → (channel k c).latest ≡ Buffer b → b < most_buffers) (λ c l b e. omega (arith, (sizes c).1, (g.channels c l).latest b e))
+      every_number (λ c. (b : ℕ) → (channel k c).latest ≡ Some b → b < most_buffers) (λ c l b e. omega (arith, (sizes c).1, (g.channels c l).latest b e))
       (λ c blank closed b e. absurd (put_or_not (ap (λ (x : Channel). x.latest) blank) e))
 
   pub session_buffer : (c t b : ℕ) → t < task_count → Opens (session k c t) b → b < most_buffers

@@ -9,8 +9,8 @@ use lib.ListN.{get_or}
 use lib.Dec.{eqb}
 use borrow.Author.Tests.{eq-eqb, ne_eqb}
 use Rattle.kernel.specs.declared.Channel.{Channel}
-use Rattle.kernel.specs.declared.Latest.{Latest}
-use Rattle.kernel.specs.declared.Latest.TheVariants.{Nothing, Buffer}
+use Rattle.std.specs.declared.option.Option.{Option}
+use Rattle.std.specs.Prelude.{None, Some}
 use Rattle.kernel.specs.declared.Session.{Session}
 use Rattle.kernel.specs.declared.Session.TheVariants.{Closed, Write, Reading}
 use Rattle.kernel.specs.declared.Slot.{Slot}
@@ -34,7 +34,7 @@ use Rattle.laws_runs.proofs.Buffers.{every_number, lowest_unused}
 -- What is seen of channels: of each its message size and its latest buffer, and the session that each task has there.
 pub record View : Type 0 where
   pub size : ℕ → ℕ
-  pub latest : ℕ → Latest
+  pub latest : ℕ → Option ℕ
   pub session : ℕ → ℕ → Session
 
 module _ (k : Kernel) where
@@ -55,7 +55,7 @@ module _ (k : Kernel) where
   left (on_channel (open_channel n b)) = record { size = λ c. cond (eqb (lowest_channel k) c) n (view.size c); latest = view.latest; session = view.session }
   left (on_channel (begin_write c)) = gets c (Write (lowest_buffer k c))
   left (on_channel (piece c a bs)) = view
-  left (on_channel (put c)) = record { size = view.size; latest = λ d. cond (eqb d c) (Buffer (buffer (own k c))) (view.latest d); session = (gets c Closed).session }
+  left (on_channel (put c)) = record { size = view.size; latest = λ d. cond (eqb d c) (Some (buffer (own k c))) (view.latest d); session = (gets c Closed).session }
   left (on_channel (begin_reading c)) = gets c (Reading (newest (channel k c).latest))
   left (on_channel (showing c)) = view
   left (on_channel (close c)) = gets c Closed
@@ -133,7 +133,7 @@ module _ {k : Kernel} (g : Good k) where
   channel_changed (open_channel n b) m al =
       let c = lowest_channel k in
       let u = lowest_unused g al.2 in
-      let x : Channel = record { size = n; buffers = b; latest = Nothing } in
+      let x : Channel = record { size = n; buffers = b; latest = None } in
       record {
         size_is = stored (λ y. y.size) (left k (on_channel (open_channel n b))).size c u.0 x (rw (eq-eqb c c refl) refl) (λ d ne. rw (ne_eqb c d (λ e. ne (sym e))) refl);
         latest_is = stored (λ y. y.latest) (view k).latest c u.0 x (sym u.1.latest) (λ d ne. refl);
@@ -142,7 +142,7 @@ module _ {k : Kernel} (g : Good k) where
   channel_changed (begin_write c) m al = only_gets c al.1.0 (Write (lowest_buffer k c))
   channel_changed (piece c a bs) m al = stays refl
   channel_changed (put c) m al =
-      let x : Channel = record { size = (channel k c).size; buffers = (channel k c).buffers; latest = Buffer (buffer (own k c)) } in
+      let x : Channel = record { size = (channel k c).size; buffers = (channel k c).buffers; latest = Some (buffer (own k c)) } in
       record {
         size_is = stored (λ y. y.size) (view k).size c al.1.0 x refl (λ d ne. refl);
         latest_is = stored (λ y. y.latest) (left k (on_channel (put c))).latest c al.1.0 x (rw (eq-eqb c c refl) refl) (λ d ne. rw (ne_eqb d c ne) refl);

@@ -9,8 +9,8 @@ use native.Mathlib.Omega.{arith}
 use lib.ListN.{length, replicate, length-replicate}
 use lib.Dec.{eqb}
 use borrow.Author.Tests.{eqb-true, eq-eqb}
-use Rattle.kernel.specs.declared.Latest.{Latest}
-use Rattle.kernel.specs.declared.Latest.TheVariants.{Nothing, Buffer}
+use Rattle.std.specs.declared.option.Option.{Option}
+use Rattle.std.specs.Prelude.{None, Some}
 use Rattle.kernel.specs.declared.Session.{Session}
 use Rattle.kernel.specs.declared.Session.TheVariants.{Closed, Write, Reading}
 use Rattle.kernel.specs.Sizes.{task_count, channel_count, most_buffers}
@@ -40,9 +40,9 @@ is_write_of Closed e = absurd (false≢true e)
 is_write_of (Write b) e = refl
 is_write_of (Reading b) e = absurd (false≢true e)
 
-is_put_of : (x : Latest) → put_before x ≡ true → x ≡ Buffer (newest x)
-is_put_of Nothing e = absurd (false≢true e)
-is_put_of (Buffer b) e = refl
+is_put_of : (x : Option ℕ) → put_before x ≡ true → x ≡ Some (newest x)
+is_put_of None e = absurd (false≢true e)
+is_put_of (Some b) e = refl
 
 -- A session that a test chooses is of the kind that the test chooses.
 kind_chosen : {o : Open} (b : Bool) (z y : Session) → o ≡ kind y → cond b (kind z) o ≡ kind (cond b z y)
@@ -90,7 +90,7 @@ module _ {h : List Event} {k : Kernel} {m : List ℕ} (g : Good k) (told : Told 
         still ne = carries_still (n d) (log d h) (bytes_in m d (n d)) (bytes_in m' d (n d)) t (session k d t) (λ b. kept d t b l ne) (told.carries d t l)
 
     -- It is no put, and the latest buffers stay.
-    no_put : ((d : ℕ) → last_put (n d) (r did x ∷ log d h) ≡ last_put (n d) (log d h)) → ((d b : ℕ) → (channel k d).latest ≡ Buffer b → bytes_in m' d (n d) b ≡ bytes_in m d (n d) b)
+    no_put : ((d : ℕ) → last_put (n d) (r did x ∷ log d h) ≡ last_put (n d) (log d h)) → ((d b : ℕ) → (channel k d).latest ≡ Some b → bytes_in m' d (n d) b ≡ bytes_in m d (n d) b)
         → (d : ℕ) → last_put (n d) (cond (eqb d c) (r did x ∷ []) [] ++ log d h) ≡ message_in (channel k d).latest (bytes_in m' d (n d))
     no_put unput kept d =
         either (λ l. last_put (n d) (l ++ log d h) ≡ last_put (n d) (log d h)) (eqb d c) (λ e. unput d) (λ e. refl)
@@ -112,7 +112,7 @@ module _ {h : List Event} {k : Kernel} {m : List ℕ} (g : Good k) (told : Told 
     abbrev m' : List ℕ
     m' = over m p bs
 
-    fills : c < channel_count → b < (channel k c).buffers → ((channel k c).latest ≡ Buffer b → ⊥)
+    fills : c < channel_count → b < (channel k c).buffers → ((channel k c).latest ≡ Some b → ⊥)
         → ((t : ℕ) → t < task_count → (t ≡ r → ⊥) → Opens (session k c t) b → ⊥)
         → buffer_start c b ≤ p → p + length bs ≤ buffer_start c b + n c
         → ((d : ℕ) → last_put (n d) (r did x ∷ log d h) ≡ last_put (n d) (log d h)) → Carries (n c) (r did x ∷ log c h) (bytes_in m' c (n c)) r z
@@ -174,7 +174,7 @@ module _ {h : List Event} {k : Kernel} {m : List ℕ} (g : Good k) (told : Told 
       record {
         size = told.size;
         latest = λ d.
-            compared (λ b. last_put (n d) (cond b (r did puts ∷ []) [] ++ log d h) ≡ message_in (cond b (Buffer (buffer (own k c))) (channel k d).latest) (bytes_in m d (n d))) d c
+            compared (λ b. last_put (n d) (cond b (r did puts ∷ []) [] ++ log d h) ≡ message_in (cond b (Some (buffer (own k c))) (channel k d).latest) (bytes_in m d (n d))) d c
             (λ e. rw e (ap some (own_written c al.2))) (λ ne. told.latest d);
         carries = deed c puts m Closed tt (λ d t b l ne o. refl);
         open_is = gets_open c Closed;
@@ -184,7 +184,7 @@ module _ {h : List Event} {k : Kernel} {m : List ℕ} (g : Good k) (told : Told 
       record {
         size = told.size;
         latest = no_put c begins_reading m (λ d. refl) (λ d b e. refl);
-        carries = deed c begins_reading m z (rw (eq-eqb r r refl) (told.latest c ∙ ap (λ (y : Latest). message_in y (bytes_in m c (n c))) (is_put_of (channel k c).latest al.3))) (λ d t b l ne o. refl);
+        carries = deed c begins_reading m z (rw (eq-eqb r r refl) (told.latest c ∙ ap (λ (y : Option ℕ). message_in y (bytes_in m c (n c))) (is_put_of (channel k c).latest al.3))) (λ d t b l ne o. refl);
         open_is = gets_open c z;
       }
   channel_tells (showing c) al = record { size = told.size; latest = told.latest; carries = told.carries; open_is = told.open_is }

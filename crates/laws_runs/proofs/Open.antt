@@ -8,8 +8,8 @@ use lib.ListN.{length}
 use lib.Dec.{leb, ltb, eqb}
 use borrow.Author.Tests.{eqb-true, ltb-true, ltb-false, le-leb, lt-leb, eq-eqb, ne_eqb}
 use Rattle.kernel.specs.declared.Channel.{Channel}
-use Rattle.kernel.specs.declared.Latest.{Latest}
-use Rattle.kernel.specs.declared.Latest.TheVariants.{Nothing, Buffer}
+use Rattle.std.specs.declared.option.Option.{Option}
+use Rattle.std.specs.Prelude.{None, Some}
 use Rattle.kernel.specs.declared.Session.{Session}
 use Rattle.kernel.specs.declared.Session.TheVariants.{Closed, Write, Reading}
 use Rattle.kernel.specs.Sizes.{task_count, channel_count, memory_size}
@@ -54,9 +54,9 @@ kind_reading (Write b) = refl
 kind_reading (Reading b) = refl
 
 -- There is a latest message where something was put.
-message_put : (x : Latest) (bytes_in : ℕ → List ℕ) → was_put (message_in x bytes_in) ≡ put_before x
-message_put Nothing bytes_in = refl
-message_put (Buffer b) bytes_in = refl
+message_put : (x : Option ℕ) (bytes_in : ℕ → List ℕ) → was_put (message_in x bytes_in) ≡ put_before x
+message_put None bytes_in = refl
+message_put (Some b) bytes_in = refl
 
 module _ {h : List Event} (w : World) (g : Good w.kernel) (size : OfItsSize w.memory) (told : Told h (view w.kernel) w.memory) where
   abbrev k : Kernel
@@ -66,9 +66,9 @@ module _ {h : List Event} (w : World) (g : Good w.kernel) (size : OfItsSize w.me
   stopped = stop_number k.stop
 
   -- On a channel that is not in use there is no session, and nothing was put.
-  not_there : (c : ℕ) → no_channel k c ≡ true → (own k c ≡ Closed) × ((channel k c).latest ≡ Nothing)
+  not_there : (c : ℕ) → no_channel k c ≡ true → (own k c ≡ Closed) × ((channel k c).latest ≡ None)
   not_there =
-      every_number g (λ c. no_channel k c ≡ true → (own k c ≡ Closed) × ((channel k c).latest ≡ Nothing))
+      every_number g (λ c. no_channel k c ≡ true → (own k c ≡ Closed) × ((channel k c).latest ≡ None))
       (λ c l e.
       let u = (g.channels c l).unused (eqb-true (channel k c).size 0 (rw (lt-leb channel_count c l) at e)) in
       (u.sessions k.running g.runs.running, u.latest))

@@ -6,8 +6,8 @@ use mathlib.Core.Logic.{inl, inr}
 use Prim.Native.Nat.{ℕ, ◌<◌}
 use native.Mathlib.Omega.{arith}
 use borrow.Author.Tests.{ne_eqb}
-use Rattle.kernel.specs.declared.Latest.{Latest}
-use Rattle.kernel.specs.declared.Latest.TheVariants.{Nothing, Buffer}
+use Rattle.std.specs.declared.option.Option.{Option}
+use Rattle.std.specs.Prelude.{None, Some}
 use Rattle.kernel.specs.declared.Session.{Session}
 use Rattle.kernel.specs.declared.Session.TheVariants.{Closed, Write, Reading}
 use Rattle.kernel.specs.Sizes.{task_count}
@@ -26,9 +26,9 @@ kind (Write b) = a_write
 kind (Reading b) = a_reading
 
 -- The message in the latest buffer, where `bytes_in` says what bytes a buffer has.
-abbrev pub message_in : Latest → (ℕ → List ℕ) → Option (List ℕ)
-message_in Nothing bytes_in = none
-message_in (Buffer b) bytes_in = some (bytes_in b)
+abbrev pub message_in : Option ℕ → (ℕ → List ℕ) → Option (List ℕ)
+message_in None bytes_in = none
+message_in (Some b) bytes_in = some (bytes_in b)
 
 -- On a channel for messages of n bytes whose log is h: the buffer of a write holds what its task has written, that of a reading the message
 -- of the last put before it was opened.
@@ -82,9 +82,9 @@ carries_still n h bytes_in bytes_in' t Closed same e = tt
 carries_still n h bytes_in bytes_in' t (Write b) same e = e ∙ sym (same b (inl refl))
 carries_still n h bytes_in bytes_in' t (Reading b) same e = e ∙ ap some (sym (same b (inr refl)))
 
-pub message_still : {bytes_in bytes_in' : ℕ → List ℕ} (x : Latest) → ((b : ℕ) → x ≡ Buffer b → bytes_in' b ≡ bytes_in b) → message_in x bytes_in ≡ message_in x bytes_in'
-message_still Nothing same = refl
-message_still (Buffer b) same = ap some (sym (same b refl))
+pub message_still : {bytes_in bytes_in' : ℕ → List ℕ} (x : Option ℕ) → ((b : ℕ) → x ≡ Some b → bytes_in' b ≡ bytes_in b) → message_in x bytes_in ≡ message_in x bytes_in'
+message_still None same = refl
+message_still (Some b) same = ap some (sym (same b refl))
 
 -- That nothing was put does not hang on the size.
 pub none_put : (n s : ℕ) (h : List Act) → last_put n h ≡ none → last_put s h ≡ none

@@ -1,7 +1,7 @@
 -- Kernels that cheat on channels, each the honest one but for what some calls do, and for each a run that gives it away. Assumes nothing.
 use Rattle.std.specs.Prelude.{cond, not, ◌&&◌, List, [], ◌∷◌, ◌++◌, ℕ, replicate}
 use Rattle.std.proofs.Math.Option.{Option, none, some}
-use Rattle.kernel.specs.declared.Latest.TheVariants.{Buffer}
+use Rattle.std.specs.Prelude.{Some}
 use Rattle.kernel.specs.declared.Session.TheVariants.{Write}
 use Rattle.kernel.specs.Sizes.{task_count, memory_size}
 use Rattle.kernel.specs.Kernel.{Kernel, channel, lowest, with_channel}
@@ -59,7 +59,7 @@ shows_nothing nothing h e = e
 
 -- A write publishes at its first piece, and its put is for show.
 abbrev with_latest : Kernel → ℕ → ℕ → Kernel
-with_latest k c b = with_channel k c (record { size = (channel k c).size; buffers = (channel k c).buffers; latest = Buffer b })
+with_latest k c b = with_channel k c (record { size = (channel k c).size; buffers = (channel k c).buffers; latest = Some b })
 
 unfoldable pub publishes_early : Fraud
 publishes_early (new n) h e = e

@@ -11,8 +11,8 @@ use Rattle.kernel.specs.declared.Class.{Class}
 use Rattle.kernel.specs.declared.Class.TheVariants.{Nrt, Hard}
 use Rattle.kernel.specs.declared.Status.{Status}
 use Rattle.kernel.specs.declared.Status.TheVariants.{Free, Sleep, Exe, Ready, Idle, Zombie, Wait}
-use Rattle.kernel.specs.declared.Latest.{Latest}
-use Rattle.kernel.specs.declared.Latest.TheVariants.{Nothing, Buffer}
+use Rattle.std.specs.declared.option.Option.{Option}
+use Rattle.std.specs.Prelude.{None, Some}
 use Rattle.kernel.specs.declared.Session.{Session}
 use Rattle.kernel.specs.declared.Session.TheVariants.{Closed, Write, Reading}
 use Rattle.kernel.specs.Sizes.{task_count, channel_count, main_priority, nrt_deadline, most_buffers}
@@ -95,9 +95,9 @@ module _ (k : Kernel) (g : Good k) where
   channel_fits c (suc zero) l = omega (arith, few_buffers k g c l)
   channel_fits c (suc (suc f)) l = go (channel k c).latest (g.channels c l).latest
     where
-      go : (a : Latest) → ((b : ℕ) → a ≡ Buffer b → b < (channel k c).buffers) → Word (latest_code a)
-      go Nothing h = omega arith
-      go (Buffer b) h = omega (arith, h b refl, few_buffers k g c l)
+      go : (a : Option ℕ) → ((b : ℕ) → a ≡ Some b → b < (channel k c).buffers) → Word (latest_code a)
+      go None h = omega arith
+      go (Some b) h = omega (arith, h b refl, few_buffers k g c l)
 
   -- **fit**: each of a good kernel's words is below 4,294,967,296.
   pub fit : (j : ℕ) → j < word_count → Word (word (words_of k) j)

@@ -8,8 +8,8 @@ use native.Mathlib.Nat.{eq-or-lt_of_le}
 use native.Mathlib.Omega.{arith}
 use borrow.Author.Rules.{rules}
 use Rattle.kernel.specs.declared.Channel.{Channel}
-use Rattle.kernel.specs.declared.Latest.{Latest}
-use Rattle.kernel.specs.declared.Latest.TheVariants.{Nothing, Buffer}
+use Rattle.std.specs.declared.option.Option.{Option}
+use Rattle.std.specs.Prelude.{None, Some}
 use Rattle.kernel.specs.declared.Session.{Session}
 use Rattle.kernel.specs.declared.Session.TheVariants.{Closed, Write, Reading}
 use Rattle.kernel.specs.declared.Status.{Status}
@@ -24,9 +24,9 @@ use Rattle.sound_sessions.specs.Channel.{NamesLatest, KeepsChannel}
 use Rattle.sound_sessions.specs.Session.{KeepsSession, Alone, KeptIn}
 
 -- Where there are no buffers, there is no latest and no session.
-no_latest : (l : Latest) → NamesLatest 0 l → l ≡ Nothing
-no_latest Nothing f = refl
-no_latest (Buffer b) f = absurd (omega (arith, f b refl))
+no_latest : (l : Option ℕ) → NamesLatest 0 l → l ≡ None
+no_latest None f = refl
+no_latest (Some b) f = absurd (omega (arith, f b refl))
 
 no_session : {h : Channel} {m : ℕ} (z : Session) → KeepsSession h m z → h.buffers ≡ 0 → z ≡ Closed
 no_session Closed k e = refl

@@ -1,8 +1,8 @@
 -- What must hold of a channel's own record. Assumes nothing.
 use Rattle.std.specs.Prelude.{◌≡◌, ℕ, ◌≤◌, ◌<◌}
 use Rattle.kernel.specs.declared.Channel.{Channel}
-use Rattle.kernel.specs.declared.Latest.{Latest}
-use Rattle.kernel.specs.declared.Latest.TheVariants.{Buffer}
+use Rattle.std.specs.declared.option.Option.{Option}
+use Rattle.std.specs.Prelude.{Some}
 use Rattle.kernel.specs.Sizes.{longest_message, fewest_buffers, most_buffers}
 
 -- An unused channel has size 0 and no buffers, a used one keeps its sizes.
@@ -13,8 +13,8 @@ pub record KeepsSizes (size buffers : ℕ) : Type 0 where
   pub unused : size ≡ 0 → buffers ≡ 0
 
 -- Its latest is one of its buffers or none.
-abbrev pub NamesLatest : ℕ → Latest → Type 0
-NamesLatest buffers latest = (b : ℕ) → latest ≡ Buffer b → b < buffers
+abbrev pub NamesLatest : ℕ → Option ℕ → Type 0
+NamesLatest buffers latest = (b : ℕ) → latest ≡ Some b → b < buffers
 
 pub record KeepsChannel (h : Channel) : Type 0 where
   pub sizes : KeepsSizes h.size h.buffers

@@ -1,7 +1,7 @@
 -- What must hold of a task's session on a channel, by itself and among the sessions of the others. Assumes nothing.
 use Rattle.std.specs.Prelude.{◌≡◌, ℕ, ◌<◌}
 use Rattle.kernel.specs.declared.Channel.{Channel}
-use Rattle.kernel.specs.declared.Latest.TheVariants.{Nothing, Buffer}
+use Rattle.std.specs.Prelude.{None, Some}
 use Rattle.kernel.specs.declared.Session.{Session}
 use Rattle.kernel.specs.declared.Session.TheVariants.{Write, Reading}
 use Rattle.kernel.specs.Sizes.{task_count}
@@ -12,8 +12,8 @@ use Rattle.kernel.specs.Good.{Opens, GoodSession}
 -- A session on channel h of a task whose status has the number n, by itself: it is good where it is open, a writer's buffer is not the latest, and nothing is read before the first put.
 pub record KeepsSession (h : Channel) (n : ℕ) (z : Session) : Type 0 where
   pub good : (b : ℕ) → Opens z b → GoodSession n b h.buffers
-  pub not_latest : (b : ℕ) → z ≡ Write b → h.latest ≡ Buffer b → ⊥
-  pub put_first : (b : ℕ) → z ≡ Reading b → h.latest ≡ Nothing → ⊥
+  pub not_latest : (b : ℕ) → z ≡ Write b → h.latest ≡ Some b → ⊥
+  pub put_first : (b : ℕ) → z ≡ Reading b → h.latest ≡ None → ⊥
 
 -- Of n tasks' sessions none but that of task t names buffer b.
 abbrev pub Alone : ℕ → (ℕ → Session) → ℕ → ℕ → Type 0

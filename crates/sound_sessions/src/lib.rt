@@ -1,8 +1,7 @@
 // The clauses of soundness about channels and sessions, over lent words: whatever they are.
 #![tactic(auto)]
 
-ghost use Rattle.std.specs.Prelude.{◌≡◌, true, ◌↔◌, ℕ, ◌<◌};
-ghost use Rattle.kernel.specs.declared.Latest.TheVariants.{Nothing, Buffer};
+ghost use Rattle.std.specs.Prelude.{◌≡◌, true, ◌↔◌, ℕ, ◌<◌, Some, None};
 ghost use Rattle.kernel.specs.Sizes.{task_count, channel_count};
 ghost use Rattle.kernel.specs.Status.{status_number};
 ghost use Rattle.kernel.specs.Kernel.{session};
@@ -11,7 +10,7 @@ ghost use Rattle.kernel.specs.Seen.{seen};
 ghost use Rattle.sound_sessions.specs.Channel.{KeepsSizes, NamesLatest, KeepsChannel};
 ghost use Rattle.sound_sessions.specs.Session.{KeepsSession, Alone, KeptIn};
 
-use kernel::{Channel, Latest, Session, State, Status};
+use kernel::{Channel, Session, State, Status};
 
 // Whether an unused channel has no buffers, and a used one keeps its sizes.
 fn keeps_sizes(size: u32, buffers: u32) -> bool
@@ -30,12 +29,12 @@ fn keeps_sizes(size: u32, buffers: u32) -> bool
 }
 
 // Whether the latest is one of so many buffers, or none.
-fn names_latest(latest: Latest, buffers: u32) -> bool
+fn names_latest(latest: Option<u32>, buffers: u32) -> bool
     ensures { (result ≡ true) ↔ NamesLatest buffers latest }
 {
     match latest {
-        Latest::Nothing => true,
-        Latest::Buffer(b) => b < buffers,
+        None => true,
+        Some(b) => b < buffers,
     }
 }
 
@@ -65,23 +64,17 @@ fn may_hold(status: Status, b: u32, buffers: u32) -> bool
 }
 
 // Whether buffer b is not the latest.
-fn not_latest(latest: Latest, b: u32) -> bool
-    ensures { (result ≡ true) ↔ (latest ≡ Buffer b → ⊥) }
+fn not_latest(latest: Option<u32>, b: u32) -> bool
+    ensures { (result ≡ true) ↔ (latest ≡ Some b → ⊥) }
 {
-    match latest {
-        Latest::Nothing => true,
-        Latest::Buffer(a) => a != b,
-    }
+    latest != Some(b)
 }
 
 // Whether anything was put.
-fn put_first(latest: Latest) -> bool
-    ensures { (result ≡ true) ↔ (latest ≡ Nothing → ⊥) }
+fn put_first(latest: Option<u32>) -> bool
+    ensures { (result ≡ true) ↔ (latest ≡ None → ⊥) }
 {
-    match latest {
-        Latest::Nothing => false,
-        Latest::Buffer(_) => true,
-    }
+    latest.is_some()
 }
 
 // Whether a session is open and names buffer b.

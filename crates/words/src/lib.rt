@@ -1,5 +1,19 @@
 // The leaves: what is read of a state's words, and what is written to them. No other code knows where a word stands.
-#![tactic(auto)]
+#![tactic(
+    auto,
+    using(kernel::proofs::Codes::told),
+    unfolding(
+        kernel::specs::Codes::link,
+        kernel::specs::Codes::class_of,
+        kernel::specs::Codes::status_of,
+        kernel::specs::Codes::stop_of,
+        kernel::specs::Codes::semaphore_of,
+        kernel::specs::Codes::latest_of,
+        kernel::specs::Codes::session_of,
+        crate::specs::Writes::with_lead,
+        crate::specs::Writes::with_previous
+    )
+)]
 
 ghost use Rattle.std.specs.Prelude.{◌≡◌, ◌<◌, ◌+◌, ◌*◌, length, set};
 ghost use Rattle.kernel.specs.Sizes.{task_count, semaphore_count, channel_count};
@@ -9,7 +23,7 @@ ghost use Rattle.kernel.specs.Codes.{link, status_code, semaphore_code, latest_c
 ghost use Rattle.kernel.specs.Seen.{class_in, status_in, deadline_in, task_in, semaphore_in, slot_in, channel_in};
 ghost use Rattle.words.specs.Writes.{with_class, with_links, with_filing, with_previous, with_lead, with_channel};
 
-use kernel::{Channel, Class, Latest, Semaphore, SemaphoreNo, Session, State, Status, Stop, Task};
+use kernel::{Channel, Class, Semaphore, SemaphoreNo, Session, State, Status, Stop, Task};
 
 // The word of a status whose tasks stand in queue 0. FREE is 0, SLEEP 1, EXE 2.
 const QUEUED: usize = 3;
@@ -61,14 +75,11 @@ pub fn stop_word(w: &[u32; State::WORDS]) -> u32
 pub fn stop(w: &[u32; State::WORDS]) -> Stop
     ensures { result ≡ stop_of (word w.now stop_at) }
 {
-    let n = stop_word(w);
-    if n == 1 {
-        return Stop::Overrun;
+    match stop_word(w) {
+        1 => Stop::Overrun,
+        2 => Stop::Lifetime,
+        _ => Stop::Going,
     }
-    if n == 2 {
-        return Stop::Lifetime;
-    }
-    Stop::Going
 }
 
 pub fn set_stop(w: &mut [u32; State::WORDS], stop: Stop)
@@ -392,23 +403,20 @@ pub fn set_session(w: &mut [u32; State::WORDS], z: usize, session: Session)
 
 // ---- channels
 
-fn latest(n: u32) -> Latest
+fn latest(n: u32) -> Option<u32>
     ensures { result ≡ latest_of n }
 {
-    if n == 0 {
-        return Latest::Nothing;
-    }
-    Latest::Buffer(n - 1)
+    n.checked_sub(1)
 }
 
 // The word of a latest buffer.
-fn latest_code(latest: Latest) -> u32
+fn latest_code(latest: Option<u32>) -> u32
     requires { latest_code latest < 4294967296 }
     ensures { result ≡ latest_code latest }
 {
     match latest {
-        Latest::Nothing => 0,
-        Latest::Buffer(b) => b + 1,
+        None => 0,
+        Some(b) => b + 1,
     }
 }
 

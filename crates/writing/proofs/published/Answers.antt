@@ -1,6 +1,6 @@
 -- The buffer that was being written is the latest, and the session is closed. Assumes nothing.
 use Rattle.std.proofs.Common.{ap, ◌∙◌, arith}
-use Rattle.kernel.specs.declared.Latest.TheVariants.{Buffer}
+use Rattle.std.specs.Prelude.{Some}
 use Rattle.kernel.specs.Kernel.{Kernel, with_channel}
 use Rattle.kernel.specs.Channels.{buffer, put}
 use Rattle.kernel.proofs.Shows.{then}
@@ -21,6 +21,6 @@ returns c =
     let is = c.buffer-b.ensures ∙ ap buffer (c.own-session.ensures h.is_channel (is_task h)) in
     rw (← is, ← c.channel_of-before.ensures)
     (then
-    (λ (j : Kernel). with_channel j c.args.c (record { size = c.channel_of-before.result.size; buffers = c.channel_of-before.result.buffers; latest = Buffer c.buffer-b.result }))
+    (λ (j : Kernel). with_channel j c.args.c (record { size = c.channel_of-before.result.size; buffers = c.channel_of-before.result.buffers; latest = Some c.buffer-b.result }))
     c.with_own.ensures
     c.store.ensures)
