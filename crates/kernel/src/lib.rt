@@ -10,22 +10,22 @@ ghost use Rattle.kernel.specs.Kernel.{period_of};
 ghost use Rattle.kernel.specs.Fresh.{with_none, fresh_state};
 
 // Numbers of three kinds, which cannot be mixed. A caller may hand in any.
-#[derive(Clone, Copy)]
+#[derive(Clone, Copy, Debug, PartialEq, Eq)]
 pub struct TaskNo(pub usize);
 
-#[derive(Clone, Copy)]
+#[derive(Clone, Copy, Debug, PartialEq, Eq)]
 pub struct SemaphoreNo(pub usize);
 
-#[derive(Clone, Copy)]
+#[derive(Clone, Copy, Debug, PartialEq, Eq)]
 pub struct ChannelNo(pub usize);
 
-#[derive(Clone, Copy)]
+#[derive(Clone, Copy, Debug, PartialEq, Eq)]
 pub enum Class {
     Nrt { priority: u32 },
     Hard { period: u32, cost: u32 },
 }
 
-#[derive(Clone, Copy)]
+#[derive(Clone, Copy, Debug, PartialEq, Eq)]
 pub enum Status {
     Free,
     Sleep,
@@ -61,7 +61,7 @@ pub struct Channel {
 }
 
 // A task's session on a channel, with its buffer.
-#[derive(Clone, Copy)]
+#[derive(Clone, Copy, Debug, PartialEq, Eq)]
 pub enum Session {
     Closed,
     Write(u32),
@@ -73,7 +73,7 @@ pub struct Slot {
     pub session: Session,
 }
 
-#[derive(Clone, Copy)]
+#[derive(Clone, Copy, Debug, PartialEq, Eq)]
 pub enum Stop {
     Going,
     Overrun,

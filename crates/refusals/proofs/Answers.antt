@@ -13,14 +13,15 @@ use mir.Facts.{to_z_pos}
 use mir.Syntax.{w64}
 use mir.Val.{to_z}
 use borrow.Author.Rules.{rules}
-use Rattle.kernel.specs.declared.Answer.{Answer}
-use Rattle.kernel.specs.declared.Answer.TheVariants.{Done, Refused}
+use Rattle.std.specs.Prelude.{Ok, Err}
+use Rattle.kernel.specs.declared.Refusal.{Refusal}
+use Rattle.kernel.specs.declared.Refusal.TheVariants.{NotSound, WrongMemory}
 use Rattle.kernel.specs.declared.State.{State}
 use Rattle.kernel.specs.declared.Reply.{Reply}
-use Rattle.kernel.specs.Answer as Answer
+use Rattle.kernel.specs.Answer.{Answer, refusal_number}
 use Rattle.kernel.specs.Sizes.{memory_size}
 use Rattle.kernel.specs.Kernel.{Kernel}
-use Rattle.kernel.specs.Calls.{Call, Shown, nothing, Effect, told, done, with_memory, effect}
+use Rattle.kernel.specs.Calls.{Call, verb, question, on_channel, open_channel, begin_write, piece, put, begin_reading, showing, close, screen, Shown, nothing, Effect, told, done, with_memory, effect}
 use Rattle.kernel.specs.Refusals.{Row, -11, -12, first, rows, lent as lent_rows}
 use Rattle.kernel.specs.Step.{by_table, step}
 use Rattle.kernel.specs.Seen.{seen}
@@ -30,15 +31,13 @@ use Rattle.kernel.specs.Slices.{Slice}
 use Rattle.kernel.specs.Promise.{handed, handed_back, Loan, Given, Gives, Answered, reply, lent, given, Unlent, Lent, Known, UnlentKnown, LentKnown}
 use Rattle.kernel.proofs.Shows.{kept, itself}
 use Rattle.kernel.proofs.Allowed.{Told, Allowed, allowed}
-use Rattle.refusals.specs.declared.Verdict.{Verdict}
-use Rattle.refusals.specs.declared.Verdict.TheVariants.{Accepts, Refuses}
-use Rattle.refusals.specs.Tested.{refusing_number, number_of, answering, Tested, of_lent, Judged, Refusal, LentRefusal, Legal, unsound_number}
+use Rattle.refusals.specs.Tested.{Said, refusing_number, Tested, of_lent, Judged, Verdict, LentVerdict, Legal, LentNothing, unsound}
 
 -- ---- any call
 
-module _ {c : Call} {w : List ℕ} {v : Verdict} where
+module _ {c : Call} {w : List ℕ} {v : Said} where
   -- Where the table lets the call pass, it is told all that its rows test.
-  pub lets_pass : {m : List ℕ} → Judged c w m v → v ≡ Accepts → Allowed c (seen w) m
+  pub lets_pass : {m : List ℕ} {u : Unit {0}} → Judged c w m v → v ≡ Ok u → Allowed c (seen w) m
   lets_pass {m} j p = (allowed (handed true w m) c (j.tested.says ∙ ap refusing_number p)).allowed
 
   module _ (l : Loan) (j : Judged c w l.memory.bytes v) where
@@ -47,18 +46,18 @@ module _ {c : Call} {w : List ℕ} {v : Verdict} where
     unfolding step
     by {g = g} e h = subst (λ (o : Option ℤ). Gives (by_table o (effect c (seen w) l.memory.bytes) (handed true w l.memory.bytes)) w l g) (sym (j.tested.says ∙ e)) h
 
-    pub turned_down : {n : ℤ} {x : Shown} → v ≡ Refuses n → (effect c (seen w) l.memory.bytes).instead ≡ x
-        → Known c w l (given (reply w (Refused (number_of v))) l.memory.bytes (handed_back x l))
+    pub turned_down : {r : Refusal} {x : Shown} → v ≡ Err r → (effect c (seen w) l.memory.bytes).instead ≡ x
+        → Known c w l (given (reply w (Err r)) l.memory.bytes (handed_back x l))
     turned_down e is =
         by (ap refusing_number e)
-        (record { answer = ap (λ (z : Verdict). Answer.refused (number_of z)) e; state = refl; running = refl; memory = refl; shown = ap (λ (z : Shown). handed_back z l) (sym is) })
+        (record { answer = refl; state = refl; running = refl; memory = refl; shown = ap (λ (z : Shown). handed_back z l) (sym is) })
 
-    pub carried_out : {f : Effect} {u : List ℕ} → v ≡ Accepts → effect c (seen w) l.memory.bytes ≡ f → Shows u f.kernel
-        → Known c w l (given (reply u (Done f.number)) f.memory (handed_back f.shown l))
+    pub carried_out : {f : Effect} {u : List ℕ} {p : Unit {0}} → v ≡ Ok p → effect c (seen w) l.memory.bytes ≡ f → Shows u f.kernel
+        → Known c w l (given (reply u (Ok f.number)) f.memory (handed_back f.shown l))
     carried_out {f} {u} e is shows =
         by (ap refusing_number e)
         (subst
-        (λ (x : Effect). Gives (by_table none x (handed true w l.memory.bytes)) w l (given (reply u (Done f.number)) f.memory (handed_back f.shown l)))
+        (λ (x : Effect). Gives (by_table none x (handed true w l.memory.bytes)) w l (given (reply u (Ok f.number)) f.memory (handed_back f.shown l)))
         (sym is)
         (record { answer = refl; state = shows; running = refl; memory = refl; shown = refl }))
 
@@ -68,46 +67,40 @@ module _ {c : Call} {w : List ℕ} {v : Verdict} where
 pub allows : {c : Call} {w : List ℕ} → Legal c w → Told (handed true w []) (Allowed c (seen w) [])
 allows {c} {w} l = allowed (handed true w []) c (l.none [])
 
-module _ {c : Call} {w : List ℕ} {v : Verdict} (t : Refusal c w v) where
-  pub legal : Sound w → v ≡ Accepts → Legal c w
+module _ {c : Call} {w : List ℕ} {v : Said} (t : Verdict c w v) where
+  pub legal : {u : Unit {0}} → Sound w → v ≡ Ok u → Legal c w
   legal h p = record { sound = h; none = λ m. (t m).tested.says ∙ ap refusing_number p }
 
-  pub refused : {n : ℤ} {a : Answer} → v ≡ Refuses n → a ≡ Refused (number_of v) → ((m : List ℕ) → (effect c (seen w) m).instead ≡ nothing) → UnlentKnown c w w a
-  refused e said is = subst (UnlentKnown c w w) (sym said) (λ l. turned_down l (t l.memory.bytes) e (is l.memory.bytes))
+  pub refused : {r : Refusal} → v ≡ Err r → ((m : List ℕ) → (effect c (seen w) m).instead ≡ nothing) → UnlentKnown c w w (Err r)
+  refused e is = λ l. turned_down l (t l.memory.bytes) e (is l.memory.bytes)
 
-  pub took_effect : {x : ℤ} {k : Kernel} {u : List ℕ} → v ≡ Accepts → Shows u k → ((m : List ℕ) → effect c (seen w) m ≡ told x k m) → UnlentKnown c w u (Done x)
+  pub took_effect : {x : ℤ} {k : Kernel} {u : List ℕ} {p : Unit {0}} → v ≡ Ok p → Shows u k → ((m : List ℕ) → effect c (seen w) m ≡ told x k m) → UnlentKnown c w u (Ok x)
   took_effect e shows is = λ l. carried_out l (t l.memory.bytes) e (is l.memory.bytes) shows
 
   -- The answer is the number that was taken.
-  pub numbered : {n x : ℕ} {k : Kernel} {u : List ℕ} {a : Answer} → v ≡ Accepts → a ≡ Done (pos n) → n ≡ x → Shows u k → ((m : List ℕ) → effect c (seen w) m ≡ told (pos x) k m)
+  pub numbered : {n x : ℕ} {k : Kernel} {u : List ℕ} {p : Unit {0}} {a : Answer} → v ≡ Ok p → a ≡ Ok (pos n) → n ≡ x → Shows u k → ((m : List ℕ) → effect c (seen w) m ≡ told (pos x) k m)
       → UnlentKnown c w u a
-  numbered {u = u} e said is shows so = subst (UnlentKnown c w u) (sym (said ∙ ap (λ (z : ℕ). Done (pos z)) is)) (took_effect e shows so)
+  numbered {u = u} e said is shows so = subst (UnlentKnown c w u) (sym (said ∙ ap (λ (z : ℕ). Ok (pos z)) is)) (took_effect e shows so)
 
--- A question changes nothing, and answers the number z.
-module _ {c : Call} {w : List ℕ} {a : Answer} (h : Sound w) where
-  pub asked : {v : Verdict} {z x : ℤ} → Refusal c w v → a ≡ answering v z → z ≡ x → ((m : List ℕ) → effect c (seen w) m ≡ told x (seen w) m) → UnlentKnown c w w a
-  unfolding answering
-  asked {v} {z} {x} t said e is = go v t said
-    where
-      go : (v : Verdict) → Refusal c w v → a ≡ answering v z → UnlentKnown c w w a
-      go Accepts t said = subst (UnlentKnown c w w) (sym (said ∙ ap Done e)) (took_effect t refl (itself (kept h)) is)
-      go (Refuses n) t said = refused t refl said (λ m. ap (λ (f : Effect). f.instead) (is m))
+  -- A question changes nothing, and answers the number x.
+  pub asked : {z x : ℤ} {p : Unit {0}} → Sound w → v ≡ Ok p → z ≡ x → ((m : List ℕ) → effect c (seen w) m ≡ told x (seen w) m) → UnlentKnown c w w (Ok z)
+  asked h e is so = subst (λ (y : ℤ). UnlentKnown c w w (Ok y)) (sym is) (took_effect e (itself (kept h)) so)
 
-  pub asked_number : {v : Verdict} {n x : ℕ} → Refusal c w v → a ≡ answering v (to_z w64 n) → n < 9223372036854775808 → n ≡ x → ((m : List ℕ) → effect c (seen w) m ≡ told (pos x) (seen w) m)
-      → UnlentKnown c w w a
-  asked_number t said l e is = asked t said (to_z_pos w64 l ∙ ap pos e) is
+  pub asked_number : {n x : ℕ} {p : Unit {0}} → Sound w → v ≡ Ok p → n < 9223372036854775808 → n ≡ x → ((m : List ℕ) → effect c (seen w) m ≡ told (pos x) (seen w) m)
+      → UnlentKnown c w w (Ok (to_z w64 n))
+  asked_number h e l is so = asked h e (to_z_pos w64 l ∙ ap pos is) so
 
 -- ---- a call that is lent the memory
 
 -- What is said of a memory's length is said of the memory.
-pub judged : {c : Call} {w : List ℕ} {own : List Row} {n : ℕ} {v : Verdict} → Tested (of_lent w n own) v → ((m : List ℕ) → rows c (handed true w m) ≡ of_lent w (length m) own) → LentRefusal c w n v
+pub judged : {c : Call} {w : List ℕ} {own : List Row} {n : ℕ} {v : Said} → Tested (of_lent w n own) v → ((m : List ℕ) → rows c (handed true w m) ≡ of_lent w (length m) own) → LentVerdict c w n v
 judged {w = w} {own} {v = v} t is m e = record { tested = subst (λ (r : List Row). Tested r v) (ap (λ (x : ℕ). of_lent w x own) (sym e) ∙ sym (is m)) t }
 
-module _ {c : Call} {w : List ℕ} {m : Slice} {v : Verdict} (j : LentRefusal c w (length m.bytes) v) where
-  pub lent_refused : {n : ℤ} {a : Answer} → v ≡ Refuses n → a ≡ Refused (number_of v) → (effect c (seen w) m.bytes).instead ≡ nothing → LentKnown c w m w a m.bytes
-  lent_refused e said is = subst (λ (z : Answer). LentKnown c w m w z m.bytes) (sym said) (λ text. turned_down (lent m text) (j m.bytes refl) e is)
+module _ {c : Call} {w : List ℕ} {m : Slice} {v : Said} (j : LentVerdict c w (length m.bytes) v) where
+  pub lent_refused : {r : Refusal} → v ≡ Err r → (effect c (seen w) m.bytes).instead ≡ nothing → LentKnown c w m w (Err r) m.bytes
+  lent_refused e is = λ text. turned_down (lent m text) (j m.bytes refl) e is
 
-  pub lent_took_effect : {k : Kernel} {n : List ℕ} {u : List ℕ} → v ≡ Accepts → Shows u k → effect c (seen w) m.bytes ≡ with_memory (done k) n → LentKnown c w m u (Done (pos 0)) n
+  pub lent_took_effect : {k : Kernel} {n : List ℕ} {u : List ℕ} {p : Unit {0}} → v ≡ Ok p → Shows u k → effect c (seen w) m.bytes ≡ with_memory (done k) n → LentKnown c w m u (Ok (pos 0)) n
   lent_took_effect e shows is = λ text. carried_out (lent m text) (j m.bytes refl) e is shows
 
 -- The needs of a call behind the test.
@@ -126,39 +119,62 @@ module _ {b : Bool} {s : State} (d : (b ≡ true) ↔ Sound s.words) where
         record { sound = b; decided = d; gives = subst (λ (z : Bool). Gives (step c (handed z s.words l.memory.bytes)) s.words l g) (sym e) h }
 
     -- Others are refused, with the number that the rows give to a state that is not sound.
-    pub unsound_answers : {n : ℤ} {x : Shown} (l : Loan) → b ≡ false → first (rows c (handed false s.words l.memory.bytes)) ≡ some n
-        → (effect c (seen s.words) l.memory.bytes).instead ≡ x → Answered c s l (given (reply s.words (Refused n)) l.memory.bytes (handed_back x l))
+    pub unsound_answers : {r : Refusal} {x : Shown} (l : Loan) → b ≡ false → first (rows c (handed false s.words l.memory.bytes)) ≡ some (refusal_number r)
+        → (effect c (seen s.words) l.memory.bytes).instead ≡ x → Answered c s l (given (reply s.words (Err r)) l.memory.bytes (handed_back x l))
     unfolding step
-    unsound_answers {n} {x} l e row is =
+    unsound_answers {r} {x} l e row is =
         record {
           sound = b;
           decided = d;
           gives = subst
-              (λ (o : Option ℤ). Gives (by_table o (effect c (seen s.words) l.memory.bytes) (handed b s.words l.memory.bytes)) s.words l (given (reply s.words (Refused n)) l.memory.bytes (handed_back x l)))
+              (λ (o : Option ℤ). Gives (by_table o (effect c (seen s.words) l.memory.bytes) (handed b s.words l.memory.bytes)) s.words l (given (reply s.words (Err r)) l.memory.bytes (handed_back x l)))
               (sym row ∙ ap (λ (z : Bool). first (rows c (handed z s.words l.memory.bytes))) (sym e))
               (record { answer = refl; state = refl; running = refl; memory = refl; shown = ap (λ (z : Shown). handed_back z l) (sym is) });
         }
 
+-- A call that is lent no memory, on a state that is not sound: row -11 is the first, and nothing is handed back.
+unlent_row : (c : Call) → LentNothing c → (w m : List ℕ) → first (rows c (handed false w m)) ≡ some -11
+unlent_row (verb v) p w m = refl
+unlent_row (question q) p w m = refl
+unlent_row (on_channel (open_channel n b)) p w m = refl
+unlent_row (on_channel (begin_write c)) p w m = absurd p
+unlent_row (on_channel (piece c a bs)) p w m = absurd p
+unlent_row (on_channel (put c)) p w m = absurd p
+unlent_row (on_channel (begin_reading c)) p w m = absurd p
+unlent_row (on_channel (showing c)) p w m = absurd p
+unlent_row (on_channel (close c)) p w m = absurd p
+unlent_row (on_channel (screen c text)) p w m = absurd p
+
+unlent_shows : (c : Call) → LentNothing c → (k : Kernel) (m : List ℕ) → (effect c k m).instead ≡ nothing
+unfolding effect
+unlent_shows (verb v) p k m = refl
+unlent_shows (question q) p k m = refl
+unlent_shows (on_channel (open_channel n b)) p k m = refl
+unlent_shows (on_channel (begin_write c)) p k m = absurd p
+unlent_shows (on_channel (piece c a bs)) p k m = absurd p
+unlent_shows (on_channel (put c)) p k m = absurd p
+unlent_shows (on_channel (begin_reading c)) p k m = absurd p
+unlent_shows (on_channel (showing c)) p k m = absurd p
+unlent_shows (on_channel (close c)) p k m = absurd p
+unlent_shows (on_channel (screen c text)) p k m = absurd p
+
 -- What a public call answers that is lent no memory. Where the words are not sound, it gives them back.
-pub unlent_unsound : {b : Bool} {c : Call} {s : State} {r : Reply} → (b ≡ true) ↔ Sound s.words → b ≡ false → r ≡ reply s.words (Refused -11)
-    → ((m : List ℕ) → first (rows c (handed false s.words m)) ≡ some -11)
-    → ((m : List ℕ) → (effect c (seen s.words) m).instead ≡ nothing)
-    → Unlent c s r
-unlent_unsound {c = c} {s} d e is row instead = subst (Unlent c s) (sym is) (λ l. unsound_answers d l e (row l.memory.bytes) (instead l.memory.bytes))
+pub unlent_unsound : {b : Bool} {c : Call} {s : State} → (b ≡ true) ↔ Sound s.words → b ≡ false → LentNothing c → Unlent c s (reply s.words (Err NotSound))
+unlent_unsound {c = c} {s} d e p l = unsound_answers d l e (unlent_row c p s.words l.memory.bytes) (unlent_shows c p (seen s.words) l.memory.bytes)
 
 -- Else what is said behind the test.
-pub unlent_known : {b : Bool} {c : Call} {s : State} {r : Reply} {v : List ℕ} {a : Answer} → (b ≡ true) ↔ Sound s.words → b ≡ true → UnlentKnown c s.words v a → r ≡ reply v a → Unlent c s r
-unlent_known {c = c} {s} d e h is = subst (Unlent c s) (sym is) (λ l. sound_answers d e (h l))
+pub unlent_known : {b : Bool} {c : Call} {s : State} {v : List ℕ} {a : Answer} → (b ≡ true) ↔ Sound s.words → b ≡ true → UnlentKnown c s.words v a → Unlent c s (reply v a)
+unlent_known d e h l = sound_answers d e (h l)
 
 -- Of a call that is lent a memory: -12 where that has another length, and else -11, whatever the call's own rows are.
-pub unsound_row : (w m : List ℕ) → first (lent_rows (handed false w m) []) ≡ some (unsound_number (length m))
+pub unsound_row : (w m : List ℕ) → first (lent_rows (handed false w m) []) ≡ some (refusal_number (unsound (length m)))
 unsound_row w m = go (eqb (length m) memory_size)
   where
-    go : (b : Bool) → cond (not b) (some -12) (some -11) ≡ some (cond b -11 -12)
+    go : (b : Bool) → cond (not b) (some -12) (some -11) ≡ some (refusal_number (cond b NotSound WrongMemory))
     go true = refl
     go false = refl
 
-pub lent_unsound : {b : Bool} {c : Call} {s : State} {m : Slice} {r : Reply} → (b ≡ true) ↔ Sound s.words → b ≡ false → r ≡ reply s.words (Refused (unsound_number (length m.bytes)))
+pub lent_unsound : {b : Bool} {c : Call} {s : State} {m : Slice} {r : Reply} → (b ≡ true) ↔ Sound s.words → b ≡ false → r ≡ reply s.words (Err (unsound (length m.bytes)))
     → first (rows c (handed false s.words m.bytes)) ≡ first (lent_rows (handed false s.words m.bytes) [])
     → (effect c (seen s.words) m.bytes).instead ≡ nothing
     → Lent c s m r m.bytes
@@ -169,5 +185,5 @@ pub lent_known : {b : Bool} {c : Call} {s : State} {m : Slice} {r : Reply} {v : 
     → Lent c s m r n
 lent_known {c = c} {s} {m} {n = n} d e h is = subst (λ (r : Reply). Lent c s m r n) (sym is) (λ text. sound_answers d e (h text))
 
--- The needs of a public call.
-pub ruleset border = (rules, sound_words, unlent_unsound, unlent_known, lent_unsound, lent_known)
+-- The needs of a public call that is lent a memory.
+pub ruleset border = (rules, sound_words, lent_unsound, lent_known)

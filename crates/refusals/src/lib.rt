@@ -1,76 +1,50 @@
-// The rows of the refusal table, read in words that are known to be sound: those of every call, and one further row. What a call answers, behind
-// the test of soundness and before it.
+// The rows of the refusal table that many calls share, read in words that are known to be sound; and what a public call, which is handed any state,
+// makes of one on such words.
 #![tactic(auto)]
 
-ghost use Rattle.std.specs.Prelude.{◌≡◌, Bool, List, [], ◌∷◌, ◌++◌, ◌<◌, pos};
-ghost use Rattle.kernel.specs.declared.Answer.TheVariants.{Done, Refused};
-ghost use Rattle.kernel.specs.Status.{status_number};
+ghost use Rattle.std.specs.Prelude.{◌≡◌, true, List, ℕ, [], ◌∷◌, ◌<◌, pos, Ok};
+ghost use Rattle.std.specs.Fn.{FnOnceTakesAtMut, FnOnceReturnsAtMut};
+ghost use Rattle.kernel.specs.Answer.{Answer};
 ghost use Rattle.kernel.specs.Kernel.{task, hard};
-ghost use Rattle.kernel.specs.Refusals.{Row, -11, -8, when, main_runs, hard_runs, no_task_in_use};
+ghost use Rattle.kernel.specs.Calls.{Call};
+ghost use Rattle.kernel.specs.Refusals.{when, -8, main_runs, hard_runs, no_task_in_use};
 ghost use Rattle.kernel.specs.Seen.{seen};
-ghost use Rattle.kernel.specs.Promise.{reply};
-ghost use Rattle.refusals.specs.declared.Verdict.TheVariants.{Accepts};
-ghost use Rattle.refusals.specs.Tested.{number_of, refuses, Tested, of_every, of_lent, unsound_number};
+ghost use Rattle.kernel.specs.Sound.{Sound};
+ghost use Rattle.kernel.specs.Promise.{reply, Unlent, UnlentKnown};
+ghost use Rattle.refusals.specs.Tested.{Tested, of_every, of_lent, LentNothing};
+ghost use Rattle.refusals.specs.Tested as Tested;
 
-use kernel::{Answer, Reply, State, Status, Stop, TaskNo};
-
-// What the rows say.
-#[derive(Clone, Copy)]
-pub enum Verdict {
-    Accepts,
-    Refuses(i64),
-}
+use kernel::{Answer, Refusal, Reply, State, Status, Stop, TaskNo};
 
 // The rows of every call.
-pub fn every_call(w: &[u32; State::WORDS]) -> Verdict
+pub fn every_call(w: &[u32; State::WORDS]) -> Result<(), Refusal>
     ensures { Tested (of_every w.now []) result }
 {
-    let stop = words::stop(w);
-    let n = kernel::stop_number(stop);
-    if n == Stop::OVERRUN {
-        return Verdict::Refuses(State::TIME_OVERFLOW);
+    match words::stop(w) {
+        Stop::Overrun => Err(Refusal::TimeOverflow),
+        Stop::Lifetime => Err(Refusal::TimeExpired),
+        Stop::Going => Ok(()),
     }
-    if n == Stop::LIFETIME {
-        return Verdict::Refuses(State::TIME_EXPIRED);
-    }
-    Verdict::Accepts
 }
 
 // The rows of every call that is lent a memory, here of so many bytes: that row answers before the others.
-pub fn lent_call(w: &[u32; State::WORDS], memory: usize) -> Verdict
+pub fn lent_call(w: &[u32; State::WORDS], memory: usize) -> Result<(), Refusal>
     ensures { Tested (of_lent w.now memory []) result }
 {
     if memory != State::MEMORY_SIZE {
-        return Verdict::Refuses(State::WRONG_MEMORY);
+        return Err(Refusal::WrongMemory);
     }
     every_call(w)
 }
 
-// One row more, behind those that said v.
-pub fn row(v: Verdict, number: i64, applies: bool) -> Verdict
-    ensures { (those : List Row) (b : Bool) → Tested those v → (Tested those Accepts → applies ≡ b) → Tested (those ++ when number b ∷ []) result }
-{
-    match v {
-        Verdict::Refuses(n) => v,
-        Verdict::Accepts => {
-            if applies {
-                Verdict::Refuses(number)
-            } else {
-                Verdict::Accepts
-            }
-        }
-    }
-}
-
-// The number of task n's status, FREE where there is no such task.
-pub fn status_of(w: &[u32; State::WORDS], n: usize) -> usize
-    ensures { result ≡ status_number (task (seen w.now) n).status }
+// Task n's status, FREE where there is no such task.
+pub fn status_of(w: &[u32; State::WORDS], n: usize) -> Status
+    ensures { result ≡ (task (seen w.now) n).status }
 {
     if n < State::TASKS {
-        let status = words::status(w, n);
-        return kernel::status_number(status);
+        return words::status(w, n);
     }
-    Status::FREE
+    Status::Free
 }
 
 // Whether task n is HARD, as no task past the table is.
@@ -78,8 +52,7 @@ pub fn is_hard(w: &[u32; State::WORDS], n: usize) -> bool
     ensures { result ≡ hard (task (seen w.now) n).class }
 {
     if n < State::TASKS {
-        let class = words::class(w, n);
-        return sound_clauses::is_hard(class);
+        return sound_clauses::is_hard(words::class(w, n));
     }
     false
 }
@@ -95,66 +68,36 @@ pub fn main_runs(w: &[u32; State::WORDS]) -> bool
 pub fn hard_runs(w: &[u32; State::WORDS]) -> bool
     ensures { result ≡ hard_runs (seen w.now) }
 {
-    let n = words::running(w);
-    is_hard(w, n)
+    is_hard(w, words::running(w))
 }
 
 // What task 0 may not ask: the rows of every call, and -8 where it runs.
-pub fn not_by_main(w: &[u32; State::WORDS]) -> Verdict
+pub fn not_by_main(w: &[u32; State::WORDS]) -> Result<(), Refusal>
     ensures { Tested (of_every w.now (when -8 (main_runs (seen w.now)) ∷ [])) result }
 {
-    let every = every_call(w);
-    let main = main_runs(w);
-    row(every, State::NOT_ALLOWED, main)
+    every_call(w)?;
+    if main_runs(w) {
+        return Err(Refusal::NotAllowed);
+    }
+    Ok(())
 }
 
 // Whether a task number is out of range, or FREE.
 pub fn no_task_in_use(w: &[u32; State::WORDS], n: usize) -> bool
     ensures { result ≡ no_task_in_use (seen w.now) n }
 {
-    if n >= State::TASKS {
-        return true;
-    }
-    status_of(w, n) == Status::FREE
-}
-
-// Whether it is a refusal, and its number, 0 where it is none.
-pub fn refuses(v: Verdict) -> bool
-    ensures { result ≡ refuses v }
-{
-    match v {
-        Verdict::Accepts => false,
-        Verdict::Refuses(_) => true,
-    }
-}
-
-pub fn number(v: Verdict) -> i64
-    ensures { result ≡ number_of v }
-{
-    match v {
-        Verdict::Accepts => 0,
-        Verdict::Refuses(n) => n,
-    }
+    n >= State::TASKS || status_of(w, n) == Status::Free
 }
 
 // ---- what a call answers
 
-pub fn refuse(v: Verdict) -> Answer
-    ensures { result ≡ Refused (number_of v) }
-{
-    let n = number(v);
-    Answer::Refused(n)
-}
-
 // A number that is not below 0.
 pub fn done_with(n: usize) -> Answer
     requires { n < 9223372036854775808 }
-    ensures { result ≡ Done (pos n) }
+    ensures { result ≡ Ok (pos n) }
 {
-    Answer::Done(n as i64)
+    Ok(n as i64)
 }
-
-// ---- the border of a public call, which is handed a state by value
 
 // The reply of these words and this answer.
 pub fn reply(w: [u32; State::WORDS], answer: Answer) -> Reply
@@ -169,26 +112,25 @@ pub fn reply(w: [u32; State::WORDS], answer: Answer) -> Reply
     }
 }
 
-// A state that is not sound comes back as it was.
-pub fn unsound(w: [u32; State::WORDS]) -> Reply
-    ensures { result ≡ reply w (Refused -11) }
+// A public call is handed a state. Where that is sound, the call is made in its words; else it comes back as it was, refused.
+pub fn handed<F: FnOnce(&mut [u32; State::WORDS]) -> Answer>(s: State, known: F) -> Reply
+    requires { Sound s.words → FnOnceTakesAtMut F.FnOnce known s.words }
+    ensures { (c : Call) → LentNothing c → ((v : List ℕ) (a : Answer) → Sound s.words → FnOnceReturnsAtMut F.FnOnce known s.words a v → UnlentKnown c s.words v a) → Unlent c s result }
 {
-    reply(w, Answer::Refused(State::NOT_SOUND))
+    let mut w = s.words;
+    if !soundness::sound(&w) {
+        return reply(w, Err(Refusal::NotSound));
+    }
+    let answer = known(&mut w);
+    reply(w, answer)
 }
 
-// What a call that is lent a memory, here of so many bytes, answers of such a state: the memory's row answers before.
-pub fn unsound_number(memory: usize) -> i64
-    ensures { result ≡ unsound_number memory }
+// What a call that is lent a memory, here of so many bytes, answers where the state is not sound: the memory's row answers before.
+pub fn unsound(memory: usize) -> Refusal
+    ensures { result ≡ Tested.unsound memory }
 {
     if memory != State::MEMORY_SIZE {
-        return State::WRONG_MEMORY;
+        return Refusal::WrongMemory;
     }
-    State::NOT_SOUND
-}
-
-pub fn unsound_lent(w: [u32; State::WORDS], memory: usize) -> Reply
-    ensures { result ≡ reply w (Refused (unsound_number memory)) }
-{
-    let n = unsound_number(memory);
-    reply(w, Answer::Refused(n))
+    Refusal::NotSound
 }
