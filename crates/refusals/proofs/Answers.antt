@@ -13,7 +13,7 @@ use mir.Facts.{to_z_pos}
 use mir.Syntax.{w64}
 use mir.Val.{to_z}
 use borrow.Author.Rules.{rules}
-use Rattle.std.specs.Prelude.{Ok, Err}
+use Rattle.std.specs.Prelude.{Ok, Err, IsErr, IsErrAnd}
 use Rattle.kernel.specs.declared.Refusal.{Refusal}
 use Rattle.kernel.specs.declared.Refusal.TheVariants.{NotSound, WrongMemory}
 use Rattle.kernel.specs.declared.State.{State}
@@ -33,11 +33,19 @@ use Rattle.kernel.proofs.Shows.{kept, itself}
 use Rattle.kernel.proofs.Allowed.{Told, Allowed, allowed}
 use Rattle.refusals.specs.Tested.{Said, refusing_number, Tested, of_lent, Judged, Verdict, LentVerdict, Legal, LentNothing, unsound}
 
+-- What `?` says of the answer a, where it hands on the refusal r.
+abbrev GoesUp : Answer → Refusal → Type 0
+GoesUp a r = IsErr a × IsErrAnd a (λ e. e ≡ r)
+
+goes_up : (a : Answer) {r : Refusal} → GoesUp a r → a ≡ Err r
+goes_up (Ok n) h = absurd h.1
+goes_up (Err e) h = ap (λ (x : Refusal). Err x) h.1
+
 -- ---- any call
 
 module _ {c : Call} {w : List ℕ} {v : Said} where
   -- Where the table lets the call pass, it is told all that its rows test.
-  pub lets_pass : {m : List ℕ} {u : Unit {0}} → Judged c w m v → v ≡ Ok u → Allowed c (seen w) m
+  pub lets_pass : {m : List ℕ} → Judged c w m v → v ≡ Ok tt → Allowed c (seen w) m
   lets_pass {m} j p = (allowed (handed true w m) c (j.tested.says ∙ ap refusing_number p)).allowed
 
   module _ (l : Loan) (j : Judged c w l.memory.bytes v) where
@@ -52,7 +60,7 @@ module _ {c : Call} {w : List ℕ} {v : Said} where
         by (ap refusing_number e)
         (record { answer = refl; state = refl; running = refl; memory = refl; shown = ap (λ (z : Shown). handed_back z l) (sym is) })
 
-    pub carried_out : {f : Effect} {u : List ℕ} {p : Unit {0}} → v ≡ Ok p → effect c (seen w) l.memory.bytes ≡ f → Shows u f.kernel
+    pub carried_out : {f : Effect} {u : List ℕ} → v ≡ Ok tt → effect c (seen w) l.memory.bytes ≡ f → Shows u f.kernel
         → Known c w l (given (reply u (Ok f.number)) f.memory (handed_back f.shown l))
     carried_out {f} {u} e is shows =
         by (ap refusing_number e)
@@ -68,25 +76,26 @@ pub allows : {c : Call} {w : List ℕ} → Legal c w → Told (handed true w [])
 allows {c} {w} l = allowed (handed true w []) c (l.none [])
 
 module _ {c : Call} {w : List ℕ} {v : Said} (t : Verdict c w v) where
-  pub legal : {u : Unit {0}} → Sound w → v ≡ Ok u → Legal c w
+  pub legal : Sound w → v ≡ Ok tt → Legal c w
   legal h p = record { sound = h; none = λ m. (t m).tested.says ∙ ap refusing_number p }
 
-  pub refused : {r : Refusal} → v ≡ Err r → ((m : List ℕ) → (effect c (seen w) m).instead ≡ nothing) → UnlentKnown c w w (Err r)
-  refused e is = λ l. turned_down l (t l.memory.bytes) e (is l.memory.bytes)
+  -- The refusal r goes up.
+  pub refused : {r : Refusal} {a : Answer} → v ≡ Err r → GoesUp a r → ((m : List ℕ) → (effect c (seen w) m).instead ≡ nothing) → UnlentKnown c w w a
+  refused e up is = subst (UnlentKnown c w w) (sym (goes_up _ up)) (λ l. turned_down l (t l.memory.bytes) e (is l.memory.bytes))
 
-  pub took_effect : {x : ℤ} {k : Kernel} {u : List ℕ} {p : Unit {0}} → v ≡ Ok p → Shows u k → ((m : List ℕ) → effect c (seen w) m ≡ told x k m) → UnlentKnown c w u (Ok x)
+  pub took_effect : {x : ℤ} {k : Kernel} {u : List ℕ} → v ≡ Ok tt → Shows u k → ((m : List ℕ) → effect c (seen w) m ≡ told x k m) → UnlentKnown c w u (Ok x)
   took_effect e shows is = λ l. carried_out l (t l.memory.bytes) e (is l.memory.bytes) shows
 
   -- The answer is the number that was taken.
-  pub numbered : {n x : ℕ} {k : Kernel} {u : List ℕ} {p : Unit {0}} {a : Answer} → v ≡ Ok p → a ≡ Ok (pos n) → n ≡ x → Shows u k → ((m : List ℕ) → effect c (seen w) m ≡ told (pos x) k m)
+  pub numbered : {n x : ℕ} {k : Kernel} {u : List ℕ} {a : Answer} → v ≡ Ok tt → a ≡ Ok (pos n) → n ≡ x → Shows u k → ((m : List ℕ) → effect c (seen w) m ≡ told (pos x) k m)
       → UnlentKnown c w u a
   numbered {u = u} e said is shows so = subst (UnlentKnown c w u) (sym (said ∙ ap (λ (z : ℕ). Ok (pos z)) is)) (took_effect e shows so)
 
   -- A question changes nothing, and answers the number x.
-  pub asked : {z x : ℤ} {p : Unit {0}} → Sound w → v ≡ Ok p → z ≡ x → ((m : List ℕ) → effect c (seen w) m ≡ told x (seen w) m) → UnlentKnown c w w (Ok z)
+  pub asked : {z x : ℤ} → Sound w → v ≡ Ok tt → z ≡ x → ((m : List ℕ) → effect c (seen w) m ≡ told x (seen w) m) → UnlentKnown c w w (Ok z)
   asked h e is so = subst (λ (y : ℤ). UnlentKnown c w w (Ok y)) (sym is) (took_effect e (itself (kept h)) so)
 
-  pub asked_number : {n x : ℕ} {p : Unit {0}} → Sound w → v ≡ Ok p → n < 9223372036854775808 → n ≡ x → ((m : List ℕ) → effect c (seen w) m ≡ told (pos x) (seen w) m)
+  pub asked_number : {n x : ℕ} → Sound w → v ≡ Ok tt → n < 9223372036854775808 → n ≡ x → ((m : List ℕ) → effect c (seen w) m ≡ told (pos x) (seen w) m)
       → UnlentKnown c w w (Ok (to_z w64 n))
   asked_number h e l is so = asked h e (to_z_pos w64 l ∙ ap pos is) so
 
@@ -97,10 +106,10 @@ pub judged : {c : Call} {w : List ℕ} {own : List Row} {n : ℕ} {v : Said} →
 judged {w = w} {own} {v = v} t is m e = record { tested = subst (λ (r : List Row). Tested r v) (ap (λ (x : ℕ). of_lent w x own) (sym e) ∙ sym (is m)) t }
 
 module _ {c : Call} {w : List ℕ} {m : Slice} {v : Said} (j : LentVerdict c w (length m.bytes) v) where
-  pub lent_refused : {r : Refusal} → v ≡ Err r → (effect c (seen w) m.bytes).instead ≡ nothing → LentKnown c w m w (Err r) m.bytes
-  lent_refused e is = λ text. turned_down (lent m text) (j m.bytes refl) e is
+  pub lent_refused : {r : Refusal} {a : Answer} → v ≡ Err r → GoesUp a r → (effect c (seen w) m.bytes).instead ≡ nothing → LentKnown c w m w a m.bytes
+  lent_refused e up is = subst (λ (z : Answer). LentKnown c w m w z m.bytes) (sym (goes_up _ up)) (λ text. turned_down (lent m text) (j m.bytes refl) e is)
 
-  pub lent_took_effect : {k : Kernel} {n : List ℕ} {u : List ℕ} {p : Unit {0}} → v ≡ Ok p → Shows u k → effect c (seen w) m.bytes ≡ with_memory (done k) n → LentKnown c w m u (Ok (pos 0)) n
+  pub lent_took_effect : {k : Kernel} {n : List ℕ} {u : List ℕ} → v ≡ Ok tt → Shows u k → effect c (seen w) m.bytes ≡ with_memory (done k) n → LentKnown c w m u (Ok (pos 0)) n
   lent_took_effect e shows is = λ text. carried_out (lent m text) (j m.bytes refl) e is shows
 
 -- The needs of a call behind the test.

@@ -1,5 +1,5 @@
 // Activate, sleep and cycle.
-#![tactic(auto)]
+#![tactic(auto, using(refusals::proofs::Answers::behind), unfolding(kernel::specs::Calls::effect))]
 
 ghost use Rattle.std.specs.Prelude.{◌≡◌, not, ◌||◌, ◌<◌, ltb};
 ghost use Rattle.kernel.specs.Sizes.{task_count};
@@ -12,10 +12,9 @@ ghost use Rattle.kernel.specs.Seen.{seen};
 ghost use Rattle.kernel.specs.Sound.{Sound};
 ghost use Rattle.kernel.specs.Shows.{Shows};
 ghost use Rattle.kernel.specs.Promise.{Unlent, UnlentKnown};
-ghost use Rattle.refusals.specs.Tested.{Refusal, Legal};
+ghost use Rattle.refusals.specs.Tested.{Verdict, Legal};
 
-use kernel::{Answer, Class, Reply, State, Status, TaskNo};
-use refusals::Verdict;
+use kernel::{Answer, Class, Refusal, Reply, State, Status, TaskNo};
 
 // Whether the clock is before the deadline of task i.
 fn early(w: &[u32; State::WORDS], i: usize) -> bool
@@ -32,22 +31,23 @@ fn early(w: &[u32; State::WORDS], i: usize) -> bool
 fn too_soon(w: &[u32; State::WORDS], n: usize) -> bool
     ensures { result ≡ too_soon (seen w.now) n }
 {
-    if refusals::is_hard(w, n) {
-        return early(w, n);
-    }
-    false
+    refusals::is_hard(w, n) && early(w, n)
 }
 
-pub fn may_activate(w: &[u32; State::WORDS], n: usize) -> Verdict
-    ensures { Refusal (verb (Calls.activate n)) w.now result }
+pub fn may_activate(w: &[u32; State::WORDS], n: usize) -> Result<(), Refusal>
+    ensures { Verdict (verb (Calls.activate n)) w.now result }
 {
-    let every = refusals::every_call(w);
-    let unused = refusals::no_task_in_use(w, n);
-    let status = refusals::status_of(w, n);
-    let soon = too_soon(w, n);
-    let numbered = refusals::row(every, State::NO_SUCH_NUMBER, unused);
-    let asleep = refusals::row(numbered, State::WRONG_STATUS, status != Status::SLEEP);
-    refusals::row(asleep, State::TOO_SOON, soon)
+    refusals::every_call(w)?;
+    if refusals::no_task_in_use(w, n) {
+        return Err(Refusal::NoSuchNumber);
+    }
+    if refusals::status_of(w, n) != Status::Sleep {
+        return Err(Refusal::WrongStatus);
+    }
+    if too_soon(w, n) {
+        return Err(Refusal::TooSoon);
+    }
+    Ok(())
 }
 
 // A HARD deadline becomes clock + period.
@@ -86,26 +86,16 @@ pub fn activate_known(w: &mut [u32; State::WORDS], n: usize) -> Answer
     requires { Sound w.old }
     ensures { UnlentKnown (verb (Calls.activate n)) w.old w.new result }
 {
-    let verdict = may_activate(w, n);
-    match verdict {
-        Verdict::Refuses(_) => refusals::refuse(verdict),
-        Verdict::Accepts => {
-            activated(w, n);
-            Answer::Done(0)
-        }
-    }
+    may_activate(w, n)?;
+    activated(w, n);
+    Ok(0)
 }
 
 // Activate a SLEEP task, a HARD one not before its deadline: it joins the ready queue; then schedule.
 pub fn activate(s: State, task: TaskNo) -> Reply
     ensures { Unlent (verb (Calls.activate task.0)) s result }
 {
-    let mut w = s.words;
-    if !soundness::sound(&w) {
-        return refusals::unsound(w);
-    }
-    let answer = activate_known(&mut w, task.0);
-    refusals::reply(w, answer)
+    refusals::handed(s, |w| activate_known(w, task.0))
 }
 
 // ---- sleep
@@ -123,26 +113,16 @@ pub fn sleep_known(w: &mut [u32; State::WORDS]) -> Answer
     requires { Sound w.old }
     ensures { UnlentKnown (verb Calls.sleep) w.old w.new result }
 {
-    let verdict = refusals::not_by_main(w);
-    match verdict {
-        Verdict::Refuses(_) => refusals::refuse(verdict),
-        Verdict::Accepts => {
-            slept(w);
-            Answer::Done(0)
-        }
-    }
+    refusals::not_by_main(w)?;
+    slept(w);
+    Ok(0)
 }
 
 // The running task goes to SLEEP, and the first ready task runs.
 pub fn sleep(s: State) -> Reply
     ensures { Unlent (verb Calls.sleep) s result }
 {
-    let mut w = s.words;
-    if !soundness::sound(&w) {
-        return refusals::unsound(w);
-    }
-    let answer = sleep_known(&mut w);
-    refusals::reply(w, answer)
+    refusals::handed(s, |w| sleep_known(w))
 }
 
 // ---- cycle
@@ -151,18 +131,17 @@ pub fn sleep(s: State) -> Reply
 fn never_cycles(w: &[u32; State::WORDS]) -> bool
     ensures { result ≡ main_runs (seen w.now) || not (hard_runs (seen w.now)) }
 {
-    if refusals::main_runs(w) {
-        return true;
-    }
-    !refusals::hard_runs(w)
+    refusals::main_runs(w) || !refusals::hard_runs(w)
 }
 
-pub fn may_cycle(w: &[u32; State::WORDS]) -> Verdict
-    ensures { Refusal (verb Calls.cycle) w.now result }
+pub fn may_cycle(w: &[u32; State::WORDS]) -> Result<(), Refusal>
+    ensures { Verdict (verb Calls.cycle) w.now result }
 {
-    let every = refusals::every_call(w);
-    let barred = never_cycles(w);
-    refusals::row(every, State::NOT_ALLOWED, barred)
+    refusals::every_call(w)?;
+    if never_cycles(w) {
+        return Err(Refusal::NotAllowed);
+    }
+    Ok(())
 }
 
 pub fn cycled(w: &mut [u32; State::WORDS])
@@ -183,24 +162,14 @@ pub fn cycle_known(w: &mut [u32; State::WORDS]) -> Answer
     requires { Sound w.old }
     ensures { UnlentKnown (verb Calls.cycle) w.old w.new result }
 {
-    let verdict = may_cycle(w);
-    match verdict {
-        Verdict::Refuses(_) => refusals::refuse(verdict),
-        Verdict::Accepts => {
-            cycled(w);
-            Answer::Done(0)
-        }
-    }
+    may_cycle(w)?;
+    cycled(w);
+    Ok(0)
 }
 
 // The running HARD task is idle until its deadline; at its deadline it is ready again, a period later. The first ready task runs.
 pub fn cycle(s: State) -> Reply
     ensures { Unlent (verb Calls.cycle) s result }
 {
-    let mut w = s.words;
-    if !soundness::sound(&w) {
-        return refusals::unsound(w);
-    }
-    let answer = cycle_known(&mut w);
-    refusals::reply(w, answer)
+    refusals::handed(s, |w| cycle_known(w))
 }

@@ -3,10 +3,10 @@ use Rattle.kernel.specs.Calls.{effect}
 use Rattle.refusals.proofs.Answers.{behind}
 use Rattle.tasks.proofs.sleep_known.Goals as goal
 
-pub returns-in-Refuses : goal.returns-in-Refuses
+pub returns-in_err-not_by_main : goal.returns-in_err-not_by_main
 unfolding effect
-returns-in-Refuses c = search behind
+returns-in_err-not_by_main c = search (behind, c.in_err-not_by_main.was, c.from_residual.ensures)
 
-pub returns-in-Accepts : goal.returns-in-Accepts
+pub returns : goal.returns
 unfolding effect
-returns-in-Accepts c = search behind
+returns c = search (behind, c.in_ok-not_by_main.was)
