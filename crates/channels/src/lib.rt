@@ -1,5 +1,9 @@
 // Open, and what the calls on an open channel share: their first rows, and the place of the buffer that a session holds.
-#![tactic(auto)]
+#![tactic(
+    auto,
+    using(refusals::proofs::Answers::behind),
+    unfolding(kernel::specs::Calls::effect)
+)]
 
 ghost use Rattle.std.specs.Prelude.{◌≡◌, ◌&&◌, [], ◌∷◌, ◌<◌};
 ghost use Rattle.kernel.specs.Sizes.{channel_count, longest_message, fewest_buffers, most_buffers, within};
@@ -14,11 +18,10 @@ ghost use Rattle.kernel.specs.Seen.{seen};
 ghost use Rattle.kernel.specs.Sound.{Sound};
 ghost use Rattle.kernel.specs.Shows.{Kept, Shows};
 ghost use Rattle.kernel.specs.Promise.{Unlent, UnlentKnown};
-ghost use Rattle.refusals.specs.Tested.{Tested, Refusal, Legal, of_lent, unsound_number};
+ghost use Rattle.refusals.specs.Tested.{Tested, Verdict, Legal, of_lent, unsound_number};
 ghost use Rattle.channels.specs.Session.{fits, Holds};
 
-use kernel::{Answer, Channel, Latest, Reply, Session, State};
-use refusals::Verdict;
+use kernel::{Answer, Channel, Refusal, Reply, Session, State};
 
 // Channel c, an unused one where there is none of that number.
 pub fn channel_of(w: &[u32; State::WORDS], c: usize) -> Channel
@@ -30,7 +33,7 @@ pub fn channel_of(w: &[u32; State::WORDS], c: usize) -> Channel
     Channel {
         size: 0,
         buffers: 0,
-        latest: Latest::Nothing,
+        latest: None,
     }
 }
 
@@ -50,29 +53,28 @@ pub fn store(w: &mut [u32; State::WORDS], c: usize, channel: Channel)
 fn within(low: usize, n: usize, high: usize) -> bool
     ensures { result ≡ within low n high }
 {
-    if n < low {
-        return false;
-    }
-    n <= high
+    low <= n && n <= high
 }
 
 // Whether the size of a message and the number of buffers are inside their sizes.
 fn fit(size: usize, buffers: usize) -> bool
     ensures { result ≡ within 1 size longest_message && within fewest_buffers buffers most_buffers }
 {
-    if !within(1, size, State::LONGEST_MESSAGE) {
-        return false;
-    }
-    within(State::FEWEST_BUFFERS, buffers, State::MOST_BUFFERS)
+    within(1, size, State::LONGEST_MESSAGE)
+        && within(State::FEWEST_BUFFERS, buffers, State::MOST_BUFFERS)
 }
 
-pub fn may_open(w: &[u32; State::WORDS], size: usize, buffers: usize) -> Verdict
-    ensures { Refusal (on_channel (Calls.open_channel size buffers)) w.now result }
+pub fn may_open(w: &[u32; State::WORDS], size: usize, buffers: usize) -> Result<(), Refusal>
+    ensures { Verdict (on_channel (Calls.open_channel size buffers)) w.now result }
 {
-    let every = refusals::every_call(w);
-    let sized = refusals::row(every, State::OUTSIDE_SIZES, !fit(size, buffers));
-    let lowest = buffers::lowest_channel(w);
-    refusals::row(sized, State::NO_ROOM, lowest == State::CHANNELS)
+    refusals::every_call(w)?;
+    if !fit(size, buffers) {
+        return Err(Refusal::OutsideSizes);
+    }
+    if buffers::lowest_channel(w) == State::CHANNELS {
+        return Err(Refusal::NoRoom);
+    }
+    Ok(())
 }
 
 // The number is that of the channel.
@@ -82,11 +84,10 @@ pub fn opened(w: &mut [u32; State::WORDS], size: usize, buffers: usize) -> usize
     ensures shows { Shows w.new (Channels.open_channel size buffers (seen w.old)) }
 {
     let c = buffers::lowest_channel(w);
-    let latest = Latest::Nothing;
     let channel = Channel {
         size: size as u32,
         buffers: buffers as u32,
-        latest,
+        latest: None,
     };
     store(w, c, channel);
     c
@@ -96,26 +97,16 @@ pub fn open_channel_known(w: &mut [u32; State::WORDS], size: usize, buffers: usi
     requires { Sound w.old }
     ensures { UnlentKnown (on_channel (Calls.open_channel size buffers)) w.old w.new result }
 {
-    let verdict = may_open(w, size, buffers);
-    match verdict {
-        Verdict::Refuses(_) => refusals::refuse(verdict),
-        Verdict::Accepts => {
-            let c = opened(w, size, buffers);
-            refusals::done_with(c)
-        }
-    }
+    may_open(w, size, buffers)?;
+    let c = opened(w, size, buffers);
+    refusals::done_with(c)
 }
 
 // Open the lowest unused channel, for messages of this size in so many buffers: its number.
 pub fn open_channel(s: State, size: usize, buffers: usize) -> Reply
     ensures { Unlent (on_channel (Calls.open_channel size buffers)) s result }
 {
-    let mut w = s.words;
-    if !soundness::sound(&w) {
-        return refusals::unsound(w);
-    }
-    let answer = open_channel_known(&mut w, size, buffers);
-    refusals::reply(w, answer)
+    refusals::handed(s, |w| open_channel_known(w, size, buffers))
 }
 
 // ---- calls on an open channel
@@ -131,23 +122,27 @@ pub enum Kind {
 fn fits(session: Session, kind: Kind) -> bool
     ensures { result ≡ fits kind session }
 {
-    match kind {
-        Kind::Closed => buffers::is_closed(session),
-        Kind::Write => buffers::is_write(session),
-        Kind::Reading => buffers::is_reading(session),
-    }
+    matches!(
+        (kind, session),
+        (Kind::Closed, Session::Closed)
+            | (Kind::Write, Session::Write(_))
+            | (Kind::Reading, Session::Reading(_))
+    )
 }
 
 // The rows of a call on channel c that needs such a session, where a memory of so many bytes is lent.
-pub fn on_channel(w: &[u32; State::WORDS], memory: usize, c: usize, kind: Kind) -> Verdict
+pub fn on_channel(w: &[u32; State::WORDS], memory: usize, c: usize, kind: Kind) -> Result<(), Refusal>
     requires { Sound w.now }
     ensures { Tested (of_lent w.now memory (when -6 (no_channel (seen w.now) c) ∷ unless -14 (fits kind (own (seen w.now) c)) ∷ [])) result }
 {
-    let lent = refusals::lent_call(w, memory);
-    let unused = buffers::no_channel(w, c);
-    let numbered = refusals::row(lent, State::NO_SUCH_NUMBER, unused);
-    let session = buffers::own(w, c);
-    refusals::row(numbered, State::WRONG_SESSION, !fits(session, kind))
+    refusals::lent_call(w, memory)?;
+    if buffers::no_channel(w, c) {
+        return Err(Refusal::NoSuchNumber);
+    }
+    if !fits(buffers::own(w, c), kind) {
+        return Err(Refusal::WrongSession);
+    }
+    Ok(())
 }
 
 // Where the buffer starts that the running task's session on channel c holds.

@@ -20,9 +20,8 @@ use Rattle.kernel.proofs.Lowest.{found}
 use Rattle.kernel.proofs.Sizes.{sizes}
 use Rattle.kernel.proofs.Shows.{kept}
 use Rattle.kernel.proofs.Codes.{class_nrt, class_hard}
-use Rattle.refusals.specs.declared.Verdict.{Verdict}
-use Rattle.refusals.specs.declared.Verdict.TheVariants.{Accepts}
-use Rattle.refusals.specs.Tested.{Refusal}
+use Rattle.std.specs.Prelude.{Ok}
+use Rattle.refusals.specs.Tested.{Said, Verdict}
 use Rattle.refusals.proofs.Answers.{allows, legal, behind}
 use Rattle.creation.specs.Creatable.{Creatable}
 
@@ -35,8 +34,8 @@ pub classed : (class : Class) → Fits class → Classed class
 classed (Hard p c) f = class_hard p c (sizes f).some_period
 classed (Nrt p) f = class_nrt p
 
-module _ {w : List ℕ} {v : Verdict} where
-  module _ {p c : ℕ} (t : Refusal (verb (create_hard p c)) w v) (h : Sound w) (accepts : v ≡ Accepts) where
+module _ {w : List ℕ} {v : Said} where
+  module _ {p c : ℕ} (t : Verdict (verb (create_hard p c)) w v) (h : Sound w) (accepts : v ≡ Ok tt) where
     pub hard_creatable : {i : ℕ} → i ≡ lowest_free (seen w) → Creatable w i (Hard p c)
     hard_creatable e =
         let a = (allows (legal t h accepts)).allowed in
@@ -52,7 +51,7 @@ module _ {w : List ℕ} {v : Verdict} where
     pub cost_word : Val.Fits w32 c
     cost_word = Fits-under w32 c 4294967296 (omega (arith, sizes (hard_creatable refl).sized)) tt
 
-  module _ {p : ℕ} (t : Refusal (verb (create_nrt p)) w v) (h : Sound w) (accepts : v ≡ Accepts) where
+  module _ {p : ℕ} (t : Verdict (verb (create_nrt p)) w v) (h : Sound w) (accepts : v ≡ Ok tt) where
     pub nrt_creatable : {i : ℕ} → i ≡ lowest_free (seen w) → Creatable w i (Nrt p)
     nrt_creatable e =
         let a = (allows (legal t h accepts)).allowed in

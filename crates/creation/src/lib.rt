@@ -1,5 +1,9 @@
 // Create, HARD and NRT.
-#![tactic(auto)]
+#![tactic(
+    auto,
+    using(refusals::proofs::Answers::behind),
+    unfolding(kernel::specs::Calls::effect)
+)]
 
 ghost use Rattle.std.specs.Prelude.{◌≡◌, ◌+◌, ◌≤◌, ltb};
 ghost use Rattle.kernel.specs.declared.Class.TheVariants.{Hard};
@@ -13,11 +17,10 @@ ghost use Rattle.kernel.specs.Seen.{seen};
 ghost use Rattle.kernel.specs.Sound.{Sound};
 ghost use Rattle.kernel.specs.Shows.{Shows};
 ghost use Rattle.kernel.specs.Promise.{Unlent, UnlentKnown};
-ghost use Rattle.refusals.specs.Tested.{Refusal};
+ghost use Rattle.refusals.specs.Tested.{Verdict};
 ghost use Rattle.creation.specs.Creatable.{Creatable};
 
-use kernel::{Answer, Class, Reply, State, Status};
-use refusals::Verdict;
+use kernel::{Answer, Class, Refusal, Reply, State, Status};
 
 // The lowest FREE record, TASKS where there is none.
 fn lowest_free(w: &[u32; State::WORDS]) -> usize
@@ -25,7 +28,7 @@ fn lowest_free(w: &[u32; State::WORDS]) -> usize
 {
     let mut i: usize = 0;
     while i < State::TASKS {
-        if refusals::status_of(w, i) == Status::FREE {
+        if refusals::status_of(w, i) == Status::Free {
             return i;
         }
         i += 1;
@@ -80,15 +83,21 @@ fn too_much(w: &[u32; State::WORDS], period: u64, cost: u64) -> bool
 }
 
 // Record i is the lowest FREE one.
-pub fn may_create_hard(w: &[u32; State::WORDS], i: usize, period: u64, cost: u64) -> Verdict
+pub fn may_create_hard(w: &[u32; State::WORDS], i: usize, period: u64, cost: u64) -> Result<(), Refusal>
     requires { i ≡ Tasks.lowest_free (seen w.now) }
-    ensures { Refusal (verb (Calls.create_hard period cost)) w.now result }
+    ensures { Verdict (verb (Calls.create_hard period cost)) w.now result }
 {
-    let every = refusals::every_call(w);
-    let sized = refusals::row(every, State::OUTSIDE_SIZES, !kernel::fitting(period, cost));
-    let free = refusals::row(sized, State::NO_TASK, i == State::TASKS);
-    let much = too_much(w, period, cost);
-    refusals::row(free, State::NO_GUARANTEE, much)
+    refusals::every_call(w)?;
+    if !kernel::fitting(period, cost) {
+        return Err(Refusal::OutsideSizes);
+    }
+    if i == State::TASKS {
+        return Err(Refusal::NoTask);
+    }
+    if too_much(w, period, cost) {
+        return Err(Refusal::NoGuarantee);
+    }
+    Ok(())
 }
 
 pub fn create_hard_known(w: &mut [u32; State::WORDS], period: u64, cost: u64) -> Answer
@@ -96,46 +105,37 @@ pub fn create_hard_known(w: &mut [u32; State::WORDS], period: u64, cost: u64) ->
     ensures { UnlentKnown (verb (Calls.create_hard period cost)) w.old w.new result }
 {
     let i = lowest_free(w);
-    let verdict = may_create_hard(w, i, period, cost);
-    match verdict {
-        Verdict::Refuses(_) => refusals::refuse(verdict),
-        Verdict::Accepts => {
-            let class = Class::Hard {
-                period: period as u32,
-                cost: cost as u32,
-            };
-            created(w, i, class);
-            refusals::done_with(i)
-        }
-    }
+    may_create_hard(w, i, period, cost)?;
+    let class = Class::Hard {
+        period: period as u32,
+        cost: cost as u32,
+    };
+    created(w, i, class);
+    refusals::done_with(i)
 }
 
 // Create a HARD task of this period and cost: its number.
 pub fn create_hard(s: State, period: u64, cost: u64) -> Reply
     ensures { Unlent (verb (Calls.create_hard period cost)) s result }
 {
-    let mut w = s.words;
-    if !soundness::sound(&w) {
-        return refusals::unsound(w);
-    }
-    let answer = create_hard_known(&mut w, period, cost);
-    refusals::reply(w, answer)
+    refusals::handed(s, |w| create_hard_known(w, period, cost))
 }
 
 // ---- NRT
 
 // Record i is the lowest FREE one.
-pub fn may_create_nrt(w: &[u32; State::WORDS], i: usize, priority: u64) -> Verdict
+pub fn may_create_nrt(w: &[u32; State::WORDS], i: usize, priority: u64) -> Result<(), Refusal>
     requires { i ≡ Tasks.lowest_free (seen w.now) }
-    ensures { Refusal (verb (Calls.create_nrt priority)) w.now result }
+    ensures { Verdict (verb (Calls.create_nrt priority)) w.now result }
 {
-    let every = refusals::every_call(w);
-    let sized = refusals::row(
-        every,
-        State::OUTSIDE_SIZES,
-        priority > State::LAST_PRIORITY as u64,
-    );
-    refusals::row(sized, State::NO_TASK, i == State::TASKS)
+    refusals::every_call(w)?;
+    if priority > State::LAST_PRIORITY as u64 {
+        return Err(Refusal::OutsideSizes);
+    }
+    if i == State::TASKS {
+        return Err(Refusal::NoTask);
+    }
+    Ok(())
 }
 
 pub fn create_nrt_known(w: &mut [u32; State::WORDS], priority: u64) -> Answer
@@ -143,27 +143,17 @@ pub fn create_nrt_known(w: &mut [u32; State::WORDS], priority: u64) -> Answer
     ensures { UnlentKnown (verb (Calls.create_nrt priority)) w.old w.new result }
 {
     let i = lowest_free(w);
-    let verdict = may_create_nrt(w, i, priority);
-    match verdict {
-        Verdict::Refuses(_) => refusals::refuse(verdict),
-        Verdict::Accepts => {
-            let class = Class::Nrt {
-                priority: priority as u32,
-            };
-            created(w, i, class);
-            refusals::done_with(i)
-        }
-    }
+    may_create_nrt(w, i, priority)?;
+    let class = Class::Nrt {
+        priority: priority as u32,
+    };
+    created(w, i, class);
+    refusals::done_with(i)
 }
 
 // Create an NRT task of this priority: its number.
 pub fn create_nrt(s: State, priority: u64) -> Reply
     ensures { Unlent (verb (Calls.create_nrt priority)) s result }
 {
-    let mut w = s.words;
-    if !soundness::sound(&w) {
-        return refusals::unsound(w);
-    }
-    let answer = create_nrt_known(&mut w, priority);
-    refusals::reply(w, answer)
+    refusals::handed(s, |w| create_nrt_known(w, priority))
 }

@@ -1,5 +1,9 @@
 // End and kill.
-#![tactic(auto)]
+#![tactic(
+    auto,
+    using(refusals::proofs::Answers::behind),
+    unfolding(kernel::specs::Calls::effect)
+)]
 
 ghost use Rattle.std.specs.Prelude.{◌<◌};
 ghost use Rattle.kernel.specs.Sizes.{task_count, channel_count};
@@ -12,10 +16,9 @@ ghost use Rattle.kernel.specs.Seen.{seen};
 ghost use Rattle.kernel.specs.Sound.{Sound};
 ghost use Rattle.kernel.specs.Shows.{Kept, Shows};
 ghost use Rattle.kernel.specs.Promise.{Unlent, UnlentKnown};
-ghost use Rattle.refusals.specs.Tested.{Refusal, Legal};
+ghost use Rattle.refusals.specs.Tested.{Verdict, Legal};
 
-use kernel::{Answer, Class, Reply, Session, State, Status, TaskNo};
-use refusals::Verdict;
+use kernel::{Answer, Class, Refusal, Reply, Session, State, Status, TaskNo};
 
 // The sessions of task n are closed, unput.
 fn close_sessions(w: &mut [u32; State::WORDS], n: usize)
@@ -73,39 +76,34 @@ pub fn end_known(w: &mut [u32; State::WORDS]) -> Answer
     requires { Sound w.old }
     ensures { UnlentKnown (verb Calls.end) w.old w.new result }
 {
-    let verdict = refusals::not_by_main(w);
-    match verdict {
-        Verdict::Refuses(_) => refusals::refuse(verdict),
-        Verdict::Accepts => {
-            gone(w);
-            Answer::Done(0)
-        }
-    }
+    refusals::not_by_main(w)?;
+    gone(w);
+    Ok(0)
 }
 
 // The running task ends, and the first ready task runs.
 pub fn end(s: State) -> Reply
     ensures { Unlent (verb Calls.end) s result }
 {
-    let mut w = s.words;
-    if !soundness::sound(&w) {
-        return refusals::unsound(w);
-    }
-    let answer = end_known(&mut w);
-    refusals::reply(w, answer)
+    refusals::handed(s, |w| end_known(w))
 }
 
 // ---- kill
 
-pub fn may_kill(w: &[u32; State::WORDS], n: usize) -> Verdict
-    ensures { Refusal (verb (Calls.kill n)) w.now result }
+pub fn may_kill(w: &[u32; State::WORDS], n: usize) -> Result<(), Refusal>
+    ensures { Verdict (verb (Calls.kill n)) w.now result }
 {
-    let every = refusals::every_call(w);
-    let other = refusals::row(every, State::NOT_ALLOWED, n == 0);
-    let unused = refusals::no_task_in_use(w, n);
-    let numbered = refusals::row(other, State::NO_SUCH_NUMBER, unused);
-    let status = refusals::status_of(w, n);
-    refusals::row(numbered, State::WRONG_STATUS, status == Status::ZOMBIE)
+    refusals::every_call(w)?;
+    if n == 0 {
+        return Err(Refusal::NotAllowed);
+    }
+    if refusals::no_task_in_use(w, n) {
+        return Err(Refusal::NoSuchNumber);
+    }
+    if refusals::status_of(w, n) == Status::Zombie {
+        return Err(Refusal::WrongStatus);
+    }
+    Ok(())
 }
 
 pub fn killed(w: &mut [u32; State::WORDS], n: usize)
@@ -124,24 +122,14 @@ pub fn kill_known(w: &mut [u32; State::WORDS], n: usize) -> Answer
     requires { Sound w.old }
     ensures { UnlentKnown (verb (Calls.kill n)) w.old w.new result }
 {
-    let verdict = may_kill(w, n);
-    match verdict {
-        Verdict::Refuses(_) => refusals::refuse(verdict),
-        Verdict::Accepts => {
-            killed(w, n);
-            Answer::Done(0)
-        }
-    }
+    may_kill(w, n)?;
+    killed(w, n);
+    Ok(0)
 }
 
 // Task n ends. Kill of oneself is end.
 pub fn kill(s: State, task: TaskNo) -> Reply
     ensures { Unlent (verb (Calls.kill task.0)) s result }
 {
-    let mut w = s.words;
-    if !soundness::sound(&w) {
-        return refusals::unsound(w);
-    }
-    let answer = kill_known(&mut w, task.0);
-    refusals::reply(w, answer)
+    refusals::handed(s, |w| kill_known(w, task.0))
 }

@@ -1,5 +1,9 @@
 // What the kernel is asked: clock, status, deadline, slack and period. The words stay as they were.
-#![tactic(auto)]
+#![tactic(
+    auto,
+    using(refusals::proofs::Answers::behind),
+    unfolding(kernel::specs::Calls::effect)
+)]
 
 ghost use Rattle.std.specs.Prelude.{◌≡◌, not, ◌||◌, pos, ◌-ℤ◌};
 ghost use Rattle.kernel.specs.Kernel.{task, hard, period_of};
@@ -9,20 +13,9 @@ ghost use Rattle.kernel.specs.Refusals.{no_task_in_use};
 ghost use Rattle.kernel.specs.Seen.{seen};
 ghost use Rattle.kernel.specs.Sound.{Sound};
 ghost use Rattle.kernel.specs.Promise.{Unlent, UnlentKnown};
-ghost use Rattle.refusals.specs.Tested.{answering, Refusal};
+ghost use Rattle.refusals.specs.Tested.{Verdict};
 
-use kernel::{Answer, Reply, State, TaskNo};
-use refusals::Verdict;
-
-// The answer to a question, whose rows said v: the number.
-fn answer(v: Verdict, number: i64) -> Answer
-    ensures { result ≡ answering v number }
-{
-    match v {
-        Verdict::Refuses(_) => refusals::refuse(v),
-        Verdict::Accepts => Answer::Done(number),
-    }
-}
+use kernel::{Answer, Refusal, Reply, State, TaskNo};
 
 // ---- clock
 
@@ -30,61 +23,54 @@ pub fn clock_known(w: &[u32; State::WORDS]) -> Answer
     requires { Sound w.now }
     ensures { UnlentKnown (question Calls.clock) w.now w.now result }
 {
-    let verdict = refusals::every_call(w);
-    let number = words::clock(w);
-    answer(verdict, number as i64)
+    refusals::every_call(w)?;
+    Ok(words::clock(w) as i64)
 }
 
 pub fn clock(s: State) -> Reply
     ensures { Unlent (question Calls.clock) s result }
 {
-    let w = s.words;
-    if !soundness::sound(&w) {
-        return refusals::unsound(w);
-    }
-    let answer = clock_known(&w);
-    refusals::reply(w, answer)
+    refusals::handed(s, |w| clock_known(w))
 }
 
 // ---- status
 
-pub fn may_ask_status(w: &[u32; State::WORDS], n: usize) -> Verdict
-    ensures { Refusal (question (Calls.status n)) w.now result }
+pub fn may_ask_status(w: &[u32; State::WORDS], n: usize) -> Result<(), Refusal>
+    ensures { Verdict (question (Calls.status n)) w.now result }
 {
-    let every = refusals::every_call(w);
-    refusals::row(every, State::NO_SUCH_NUMBER, n >= State::TASKS)
+    refusals::every_call(w)?;
+    if n >= State::TASKS {
+        return Err(Refusal::NoSuchNumber);
+    }
+    Ok(())
 }
 
 pub fn status_known(w: &[u32; State::WORDS], n: usize) -> Answer
     requires { Sound w.now }
     ensures { UnlentKnown (question (Calls.status n)) w.now w.now result }
 {
-    let verdict = may_ask_status(w, n);
-    let number = refusals::status_of(w, n);
-    answer(verdict, number as i64)
+    may_ask_status(w, n)?;
+    Ok(kernel::status_number(refusals::status_of(w, n)) as i64)
 }
 
 // The number of a task's status, a FREE record's too.
 pub fn status(s: State, task: TaskNo) -> Reply
     ensures { Unlent (question (Calls.status task.0)) s result }
 {
-    let w = s.words;
-    if !soundness::sound(&w) {
-        return refusals::unsound(w);
-    }
-    let answer = status_known(&w, task.0);
-    refusals::reply(w, answer)
+    refusals::handed(s, |w| status_known(w, task.0))
 }
 
 // ---- deadline and slack, which have the same rows
 
-pub fn may_ask(w: &[u32; State::WORDS], n: usize) -> Verdict
-    ensures deadline { Refusal (question (Calls.deadline n)) w.now result }
-    ensures slack { Refusal (question (Calls.slack n)) w.now result }
+pub fn may_ask(w: &[u32; State::WORDS], n: usize) -> Result<(), Refusal>
+    ensures deadline { Verdict (question (Calls.deadline n)) w.now result }
+    ensures slack { Verdict (question (Calls.slack n)) w.now result }
 {
-    let every = refusals::every_call(w);
-    let unused = refusals::no_task_in_use(w, n);
-    refusals::row(every, State::NO_SUCH_NUMBER, unused)
+    refusals::every_call(w)?;
+    if refusals::no_task_in_use(w, n) {
+        return Err(Refusal::NoSuchNumber);
+    }
+    Ok(())
 }
 
 // The deadline of task n, 0 where there is no such task.
@@ -101,20 +87,14 @@ pub fn deadline_known(w: &[u32; State::WORDS], n: usize) -> Answer
     requires { Sound w.now }
     ensures { UnlentKnown (question (Calls.deadline n)) w.now w.now result }
 {
-    let verdict = may_ask(w, n);
-    let number = deadline_of(w, n);
-    answer(verdict, number as i64)
+    may_ask(w, n)?;
+    Ok(deadline_of(w, n) as i64)
 }
 
 pub fn deadline(s: State, task: TaskNo) -> Reply
     ensures { Unlent (question (Calls.deadline task.0)) s result }
 {
-    let w = s.words;
-    if !soundness::sound(&w) {
-        return refusals::unsound(w);
-    }
-    let answer = deadline_known(&w, task.0);
-    refusals::reply(w, answer)
+    refusals::handed(s, |w| deadline_known(w, task.0))
 }
 
 fn slack_of(w: &[u32; State::WORDS], n: usize) -> i64
@@ -129,21 +109,15 @@ pub fn slack_known(w: &[u32; State::WORDS], n: usize) -> Answer
     requires { Sound w.now }
     ensures { UnlentKnown (question (Calls.slack n)) w.now w.now result }
 {
-    let verdict = may_ask(w, n);
-    let number = slack_of(w, n);
-    answer(verdict, number)
+    may_ask(w, n)?;
+    Ok(slack_of(w, n))
 }
 
 // Deadline minus clock, below zero once the deadline has passed.
 pub fn slack(s: State, task: TaskNo) -> Reply
     ensures { Unlent (question (Calls.slack task.0)) s result }
 {
-    let w = s.words;
-    if !soundness::sound(&w) {
-        return refusals::unsound(w);
-    }
-    let answer = slack_known(&w, task.0);
-    refusals::reply(w, answer)
+    refusals::handed(s, |w| slack_known(w, task.0))
 }
 
 // ---- period
@@ -152,20 +126,20 @@ pub fn slack(s: State, task: TaskNo) -> Reply
 fn no_period(w: &[u32; State::WORDS], n: usize) -> bool
     ensures { result ≡ not (no_task_in_use (seen w.now) n || hard (task (seen w.now) n).class) }
 {
-    if refusals::no_task_in_use(w, n) {
-        return false;
-    }
-    !refusals::is_hard(w, n)
+    !refusals::no_task_in_use(w, n) && !refusals::is_hard(w, n)
 }
 
-pub fn may_ask_period(w: &[u32; State::WORDS], n: usize) -> Verdict
-    ensures { Refusal (question (Calls.period n)) w.now result }
+pub fn may_ask_period(w: &[u32; State::WORDS], n: usize) -> Result<(), Refusal>
+    ensures { Verdict (question (Calls.period n)) w.now result }
 {
-    let every = refusals::every_call(w);
-    let nrt = no_period(w, n);
-    let allowed = refusals::row(every, State::NOT_ALLOWED, nrt);
-    let unused = refusals::no_task_in_use(w, n);
-    refusals::row(allowed, State::NO_SUCH_NUMBER, unused)
+    refusals::every_call(w)?;
+    if no_period(w, n) {
+        return Err(Refusal::NotAllowed);
+    }
+    if refusals::no_task_in_use(w, n) {
+        return Err(Refusal::NoSuchNumber);
+    }
+    Ok(())
 }
 
 // The period of task n, 0 where there is no such task.
@@ -183,19 +157,13 @@ pub fn period_known(w: &[u32; State::WORDS], n: usize) -> Answer
     requires { Sound w.now }
     ensures { UnlentKnown (question (Calls.period n)) w.now w.now result }
 {
-    let verdict = may_ask_period(w, n);
-    let number = period_of(w, n);
-    answer(verdict, number as i64)
+    may_ask_period(w, n)?;
+    Ok(period_of(w, n) as i64)
 }
 
 // The period of a HARD task.
 pub fn period(s: State, task: TaskNo) -> Reply
     ensures { Unlent (question (Calls.period task.0)) s result }
 {
-    let w = s.words;
-    if !soundness::sound(&w) {
-        return refusals::unsound(w);
-    }
-    let answer = period_known(&w, task.0);
-    refusals::reply(w, answer)
+    refusals::handed(s, |w| period_known(w, task.0))
 }

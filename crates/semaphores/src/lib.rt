@@ -1,5 +1,9 @@
 // New semaphore, delete, wait and signal.
-#![tactic(auto)]
+#![tactic(
+    auto,
+    using(refusals::proofs::Answers::behind),
+    unfolding(kernel::specs::Calls::effect)
+)]
 
 ghost use Rattle.std.specs.Prelude.{◌≡◌, not, ◌||◌};
 ghost use Rattle.kernel.specs.Status.{waiters};
@@ -13,10 +17,9 @@ ghost use Rattle.kernel.specs.Seen.{seen};
 ghost use Rattle.kernel.specs.Sound.{Sound};
 ghost use Rattle.kernel.specs.Shows.{Shows};
 ghost use Rattle.kernel.specs.Promise.{Unlent, UnlentKnown};
-ghost use Rattle.refusals.specs.Tested.{Refusal, Legal};
+ghost use Rattle.refusals.specs.Tested.{Verdict, Legal};
 
-use kernel::{Answer, Reply, Semaphore, SemaphoreNo, State, Status};
-use refusals::Verdict;
+use kernel::{Answer, Refusal, Reply, Semaphore, SemaphoreNo, State, Status};
 
 // Whether a semaphore number is out of range, or unused.
 fn no_semaphore(w: &[u32; State::WORDS], n: usize) -> bool
@@ -58,17 +61,18 @@ fn lowest(w: &[u32; State::WORDS]) -> usize
 // ---- new semaphore
 
 // Semaphore n is the lowest unused one.
-pub fn may_make(w: &[u32; State::WORDS], n: usize, count: u64) -> Verdict
+pub fn may_make(w: &[u32; State::WORDS], n: usize, count: u64) -> Result<(), Refusal>
     requires { n ≡ lowest_semaphore (seen w.now) }
-    ensures { Refusal (verb (Calls.new_semaphore count)) w.now result }
+    ensures { Verdict (verb (Calls.new_semaphore count)) w.now result }
 {
-    let every = refusals::every_call(w);
-    let sized = refusals::row(
-        every,
-        State::OUTSIDE_SIZES,
-        count > State::HIGHEST_COUNT as u64,
-    );
-    refusals::row(sized, State::NO_SEMAPHORE, n == State::SEMAPHORES)
+    refusals::every_call(w)?;
+    if count > State::HIGHEST_COUNT as u64 {
+        return Err(Refusal::OutsideSizes);
+    }
+    if n == State::SEMAPHORES {
+        return Err(Refusal::NoSemaphore);
+    }
+    Ok(())
 }
 
 pub fn made(w: &mut [u32; State::WORDS], n: usize, count: u64)
@@ -88,26 +92,16 @@ pub fn new_semaphore_known(w: &mut [u32; State::WORDS], count: u64) -> Answer
     ensures { UnlentKnown (verb (Calls.new_semaphore count)) w.old w.new result }
 {
     let n = lowest(w);
-    let verdict = may_make(w, n, count);
-    match verdict {
-        Verdict::Refuses(_) => refusals::refuse(verdict),
-        Verdict::Accepts => {
-            made(w, n, count);
-            refusals::done_with(n)
-        }
-    }
+    may_make(w, n, count)?;
+    made(w, n, count);
+    refusals::done_with(n)
 }
 
 // Takes the lowest unused semaphore, with this count, and answers its number.
 pub fn new_semaphore(s: State, count: u64) -> Reply
     ensures { Unlent (verb (Calls.new_semaphore count)) s result }
 {
-    let mut w = s.words;
-    if !soundness::sound(&w) {
-        return refusals::unsound(w);
-    }
-    let answer = new_semaphore_known(&mut w, count);
-    refusals::reply(w, answer)
+    refusals::handed(s, |w| new_semaphore_known(w, count))
 }
 
 // ---- delete
@@ -123,14 +117,17 @@ fn has_waiters(w: &[u32; State::WORDS], n: usize) -> bool
     false
 }
 
-pub fn may_delete(w: &[u32; State::WORDS], n: usize) -> Verdict
-    ensures { Refusal (verb (Calls.delete n)) w.now result }
+pub fn may_delete(w: &[u32; State::WORDS], n: usize) -> Result<(), Refusal>
+    ensures { Verdict (verb (Calls.delete n)) w.now result }
 {
-    let every = refusals::every_call(w);
-    let unused = no_semaphore(w, n);
-    let numbered = refusals::row(every, State::NO_SUCH_NUMBER, unused);
-    let waited = has_waiters(w, n);
-    refusals::row(numbered, State::WRONG_STATUS, waited)
+    refusals::every_call(w)?;
+    if no_semaphore(w, n) {
+        return Err(Refusal::NoSuchNumber);
+    }
+    if has_waiters(w, n) {
+        return Err(Refusal::WrongStatus);
+    }
+    Ok(())
 }
 
 pub fn deleted(w: &mut [u32; State::WORDS], n: usize)
@@ -148,26 +145,16 @@ pub fn delete_known(w: &mut [u32; State::WORDS], n: usize) -> Answer
     requires { Sound w.old }
     ensures { UnlentKnown (verb (Calls.delete n)) w.old w.new result }
 {
-    let verdict = may_delete(w, n);
-    match verdict {
-        Verdict::Refuses(_) => refusals::refuse(verdict),
-        Verdict::Accepts => {
-            deleted(w, n);
-            Answer::Done(0)
-        }
-    }
+    may_delete(w, n)?;
+    deleted(w, n);
+    Ok(0)
 }
 
 // A semaphore at which no one waits is unused again.
 pub fn delete(s: State, semaphore: SemaphoreNo) -> Reply
     ensures { Unlent (verb (Calls.delete semaphore.0)) s result }
 {
-    let mut w = s.words;
-    if !soundness::sound(&w) {
-        return refusals::unsound(w);
-    }
-    let answer = delete_known(&mut w, semaphore.0);
-    refusals::reply(w, answer)
+    refusals::handed(s, |w| delete_known(w, semaphore.0))
 }
 
 // ---- wait
@@ -176,20 +163,20 @@ pub fn delete(s: State, semaphore: SemaphoreNo) -> Reply
 fn never_waits(w: &[u32; State::WORDS]) -> bool
     ensures { result ≡ main_runs (seen w.now) || hard_runs (seen w.now) }
 {
-    if refusals::main_runs(w) {
-        return true;
-    }
-    refusals::hard_runs(w)
+    refusals::main_runs(w) || refusals::hard_runs(w)
 }
 
-pub fn may_wait(w: &[u32; State::WORDS], n: usize) -> Verdict
-    ensures { Refusal (verb (Calls.wait n)) w.now result }
+pub fn may_wait(w: &[u32; State::WORDS], n: usize) -> Result<(), Refusal>
+    ensures { Verdict (verb (Calls.wait n)) w.now result }
 {
-    let every = refusals::every_call(w);
-    let barred = never_waits(w);
-    let allowed = refusals::row(every, State::NOT_ALLOWED, barred);
-    let unused = no_semaphore(w, n);
-    refusals::row(allowed, State::NO_SUCH_NUMBER, unused)
+    refusals::every_call(w)?;
+    if never_waits(w) {
+        return Err(Refusal::NotAllowed);
+    }
+    if no_semaphore(w, n) {
+        return Err(Refusal::NoSuchNumber);
+    }
+    Ok(())
 }
 
 pub fn waited(w: &mut [u32; State::WORDS], n: usize)
@@ -215,38 +202,31 @@ pub fn wait_known(w: &mut [u32; State::WORDS], n: usize) -> Answer
     requires { Sound w.old }
     ensures { UnlentKnown (verb (Calls.wait n)) w.old w.new result }
 {
-    let verdict = may_wait(w, n);
-    match verdict {
-        Verdict::Refuses(_) => refusals::refuse(verdict),
-        Verdict::Accepts => {
-            waited(w, n);
-            Answer::Done(0)
-        }
-    }
+    may_wait(w, n)?;
+    waited(w, n);
+    Ok(0)
 }
 
 // Count above 0 falls by 1, else the running task WAITs and the first ready task runs.
 pub fn wait(s: State, semaphore: SemaphoreNo) -> Reply
     ensures { Unlent (verb (Calls.wait semaphore.0)) s result }
 {
-    let mut w = s.words;
-    if !soundness::sound(&w) {
-        return refusals::unsound(w);
-    }
-    let answer = wait_known(&mut w, semaphore.0);
-    refusals::reply(w, answer)
+    refusals::handed(s, |w| wait_known(w, semaphore.0))
 }
 
 // ---- signal
 
-pub fn may_signal(w: &[u32; State::WORDS], n: usize) -> Verdict
-    ensures { Refusal (verb (Calls.signal n)) w.now result }
+pub fn may_signal(w: &[u32; State::WORDS], n: usize) -> Result<(), Refusal>
+    ensures { Verdict (verb (Calls.signal n)) w.now result }
 {
-    let every = refusals::every_call(w);
-    let unused = no_semaphore(w, n);
-    let numbered = refusals::row(every, State::NO_SUCH_NUMBER, unused);
-    let count = count_of(w, n);
-    refusals::row(numbered, State::WRONG_STATUS, count == State::HIGHEST_COUNT)
+    refusals::every_call(w)?;
+    if no_semaphore(w, n) {
+        return Err(Refusal::NoSuchNumber);
+    }
+    if count_of(w, n) == State::HIGHEST_COUNT {
+        return Err(Refusal::WrongStatus);
+    }
+    Ok(())
 }
 
 pub fn signalled(w: &mut [u32; State::WORDS], n: usize)
@@ -271,24 +251,14 @@ pub fn signal_known(w: &mut [u32; State::WORDS], n: usize) -> Answer
     requires { Sound w.old }
     ensures { UnlentKnown (verb (Calls.signal n)) w.old w.new result }
 {
-    let verdict = may_signal(w, n);
-    match verdict {
-        Verdict::Refuses(_) => refusals::refuse(verdict),
-        Verdict::Accepts => {
-            signalled(w, n);
-            Answer::Done(0)
-        }
-    }
+    may_signal(w, n)?;
+    signalled(w, n);
+    Ok(0)
 }
 
 // The first waiter becomes READY, and is scheduled; with no waiter the count rises by 1.
 pub fn signal(s: State, semaphore: SemaphoreNo) -> Reply
     ensures { Unlent (verb (Calls.signal semaphore.0)) s result }
 {
-    let mut w = s.words;
-    if !soundness::sound(&w) {
-        return refusals::unsound(w);
-    }
-    let answer = signal_known(&mut w, semaphore.0);
-    refusals::reply(w, answer)
+    refusals::handed(s, |w| signal_known(w, semaphore.0))
 }

@@ -1,5 +1,9 @@
 // The clock tick.
-#![tactic(auto)]
+#![tactic(
+    auto,
+    using(refusals::proofs::Answers::behind),
+    unfolding(kernel::specs::Calls::effect)
+)]
 
 ghost use Rattle.std.specs.Prelude.{◌≡◌, ◌+◌, ◌-◌, ◌≤◌, ◌<◌};
 ghost use Rattle.kernel.specs.Sizes.{task_count};
@@ -17,8 +21,7 @@ ghost use Rattle.sound_clauses.specs.Task.{HardFits};
 ghost use Rattle.refusals.specs.Tested.{Legal};
 ghost use Rattle.ticks.specs.Due.{FirstDue};
 
-use kernel::{Answer, Class, Reply, State, Status, Stop};
-use refusals::Verdict;
+use kernel::{Answer, Class, Refusal, Reply, State, Status, Stop};
 
 // The first task of queue q if it is due, and a number that no task has else.
 fn first_due(w: &[u32; State::WORDS], q: usize) -> usize
@@ -141,24 +144,14 @@ pub fn tick_known(w: &mut [u32; State::WORDS]) -> Answer
     requires { Sound w.old }
     ensures { UnlentKnown (verb Calls.tick) w.old w.new result }
 {
-    let verdict = refusals::every_call(w);
-    match verdict {
-        Verdict::Refuses(_) => refusals::refuse(verdict),
-        Verdict::Accepts => {
-            ticked(w);
-            Answer::Done(0)
-        }
-    }
+    refusals::every_call(w)?;
+    ticked(w);
+    Ok(0)
 }
 
 // A clock tick.
 pub fn tick(s: State) -> Reply
     ensures { Unlent (verb Calls.tick) s result }
 {
-    let mut w = s.words;
-    if !soundness::sound(&w) {
-        return refusals::unsound(w);
-    }
-    let answer = tick_known(&mut w);
-    refusals::reply(w, answer)
+    refusals::handed(s, |w| tick_known(w))
 }

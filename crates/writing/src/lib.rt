@@ -1,5 +1,9 @@
 // Begin write, piece and put.
-#![tactic(auto)]
+#![tactic(
+    auto,
+    using(refusals::proofs::Answers::behind),
+    unfolding(kernel::specs::Calls::effect)
+)]
 
 ghost use Rattle.std.specs.Prelude.{◌≡◌, true, List, ℕ, ◌+◌, ltb, length};
 ghost use Rattle.std.proofs.Math.Option.{none};
@@ -12,23 +16,23 @@ ghost use Rattle.kernel.specs.Sound.{Sound};
 ghost use Rattle.kernel.specs.Shows.{Shows};
 ghost use Rattle.kernel.specs.Slices.{slice, slice_mut};
 ghost use Rattle.kernel.specs.Promise.{handed, Lent, LentKnown};
-ghost use Rattle.refusals.specs.Tested.{LentRefusal};
+ghost use Rattle.refusals.specs.Tested.{LentVerdict};
 ghost use Rattle.channels.specs.Session.{Holds};
 
 use channels::Kind;
-use kernel::{Answer, Channel, ChannelNo, Latest, Reply, Session, State};
-use refusals::Verdict;
+use kernel::{Answer, Channel, ChannelNo, Refusal, Reply, Session, State};
 
 // ---- begin write
 
-pub fn may_begin(w: &[u32; State::WORDS], memory: usize, c: usize) -> Verdict
+pub fn may_begin(w: &[u32; State::WORDS], memory: usize, c: usize) -> Result<(), Refusal>
     requires { Sound w.now }
-    ensures { LentRefusal (on_channel (Calls.begin_write c)) w.now memory result }
+    ensures { LentVerdict (on_channel (Calls.begin_write c)) w.now memory result }
 {
-    let closed = channels::on_channel(w, memory, c, Kind::Closed);
-    let b = buffers::lowest_buffer(w, c);
-    let channel = channels::channel_of(w, c);
-    refusals::row(closed, State::NO_ROOM, b == channel.buffers)
+    channels::on_channel(w, memory, c, Kind::Closed)?;
+    if buffers::lowest_buffer(w, c) == channels::channel_of(w, c).buffers {
+        return Err(Refusal::NoRoom);
+    }
+    Ok(())
 }
 
 // The buffer that is taken: its message bytes become 0.
@@ -49,15 +53,10 @@ pub fn begin_write_known(w: &mut [u32; State::WORDS], c: usize, memory: &mut [u8
     requires { Sound w.old }
     ensures { LentKnown (on_channel (Calls.begin_write c)) w.old (slice_mut memory.entry) w.new result memory.new }
 {
-    let verdict = may_begin(w, memory.len(), c);
-    match verdict {
-        Verdict::Refuses(_) => refusals::refuse(verdict),
-        Verdict::Accepts => {
-            let b = cleared(w, c, memory);
-            buffers::with_own(w, c, Session::Write(b));
-            Answer::Done(0)
-        }
-    }
+    may_begin(w, memory.len(), c)?;
+    let b = cleared(w, c, memory);
+    buffers::with_own(w, c, Session::Write(b));
+    Ok(0)
 }
 
 // The running task begins to write: it takes the lowest buffer that is not latest, not read and not being written, whose message bytes
@@ -67,7 +66,7 @@ pub fn begin_write(s: State, channel: ChannelNo, memory: &mut [u8]) -> Reply
 {
     let mut w = s.words;
     if !soundness::sound(&w) {
-        return refusals::unsound_lent(w, memory.len());
+        return refusals::reply(w, Err(refusals::unsound(memory.len())));
     }
     let answer = begin_write_known(&mut w, channel.0, memory);
     refusals::reply(w, answer)
@@ -79,10 +78,7 @@ pub fn begin_write(s: State, channel: ChannelNo, memory: &mut [u8]) -> Reply
 fn past_message(size: usize, offset: usize, n: usize) -> bool
     ensures { result ≡ ltb size (offset + n) }
 {
-    if offset > size {
-        return true;
-    }
-    n > size - offset
+    offset > size || n > size - offset
 }
 
 pub fn may_write(
@@ -91,14 +87,16 @@ pub fn may_write(
     c: usize,
     offset: usize,
     n: usize,
-) -> Verdict
+) -> Result<(), Refusal>
     requires { Sound w.now }
-    ensures { (bytes : List ℕ) → length bytes ≡ n → LentRefusal (on_channel (Calls.piece c offset bytes)) w.now memory result }
+    ensures { (bytes : List ℕ) → length bytes ≡ n → LentVerdict (on_channel (Calls.piece c offset bytes)) w.now memory result }
 {
-    let writing = channels::on_channel(w, memory, c, Kind::Write);
+    channels::on_channel(w, memory, c, Kind::Write)?;
     let channel = channels::channel_of(w, c);
-    let past = past_message(channel.size as usize, offset, n);
-    refusals::row(writing, State::OUTSIDE_SIZES, past)
+    if past_message(channel.size as usize, offset, n) {
+        return Err(Refusal::OutsideSizes);
+    }
+    Ok(())
 }
 
 pub fn piece_known(
@@ -111,15 +109,10 @@ pub fn piece_known(
     requires { Sound w.now }
     ensures { LentKnown (on_channel (Calls.piece c offset bytes.now)) w.now (slice_mut memory.entry) w.now result memory.new }
 {
-    let verdict = may_write(w, memory.len(), c, offset, bytes.len());
-    match verdict {
-        Verdict::Refuses(_) => refusals::refuse(verdict),
-        Verdict::Accepts => {
-            let place = channels::held(w, c);
-            memory::write(memory, place + offset, bytes);
-            Answer::Done(0)
-        }
-    }
+    may_write(w, memory.len(), c, offset, bytes.len())?;
+    let place = channels::held(w, c);
+    memory::write(memory, place + offset, bytes);
+    Ok(0)
 }
 
 // Write these bytes at an offset of the message.
@@ -128,7 +121,7 @@ pub fn piece(s: State, channel: ChannelNo, offset: usize, bytes: &[u8], memory: 
 {
     let w = s.words;
     if !soundness::sound(&w) {
-        return refusals::unsound_lent(w, memory.len());
+        return refusals::reply(w, Err(refusals::unsound(memory.len())));
     }
     let answer = piece_known(&w, channel.0, offset, bytes, memory);
     refusals::reply(w, answer)
@@ -146,7 +139,7 @@ pub fn published(w: &mut [u32; State::WORDS], c: usize)
     let channel = Channel {
         size: before.size,
         buffers: before.buffers,
-        latest: Latest::Buffer(b),
+        latest: Some(b),
     };
     buffers::with_own(w, c, Session::Closed);
     channels::store(w, c, channel);
@@ -156,14 +149,9 @@ pub fn put_known(w: &mut [u32; State::WORDS], c: usize, memory: &[u8]) -> Answer
     requires { Sound w.old }
     ensures { LentKnown (on_channel (Calls.put c)) w.old (slice memory.entry) w.new result memory.now }
 {
-    let verdict = channels::on_channel(w, memory.len(), c, Kind::Write);
-    match verdict {
-        Verdict::Refuses(_) => refusals::refuse(verdict),
-        Verdict::Accepts => {
-            published(w, c);
-            Answer::Done(0)
-        }
-    }
+    channels::on_channel(w, memory.len(), c, Kind::Write)?;
+    published(w, c);
+    Ok(0)
 }
 
 // The buffer that the running task was writing is the latest, and its session is closed.
@@ -172,7 +160,7 @@ pub fn put(s: State, channel: ChannelNo, memory: &[u8]) -> Reply
 {
     let mut w = s.words;
     if !soundness::sound(&w) {
-        return refusals::unsound_lent(w, memory.len());
+        return refusals::reply(w, Err(refusals::unsound(memory.len())));
     }
     let answer = put_known(&mut w, channel.0, memory);
     refusals::reply(w, answer)

@@ -3,22 +3,22 @@ use Rattle.kernel.specs.Calls.{effect}
 use Rattle.creation.proofs.Creatable.{creates}
 use Rattle.creation.proofs.create_hard_known.Goals as goal
 
-pub overflow_cast-class : goal.overflow_cast-class
-overflow_cast-class c = search creates
-
-pub overflow_cast-class-in-Accepts : goal.overflow_cast-class-in-Accepts
-overflow_cast-class-in-Accepts c = search creates
+pub returns-in_err-may_create_hard : goal.returns-in_err-may_create_hard
+unfolding effect
+returns-in_err-may_create_hard c = search (creates, c.in_err-may_create_hard.was, c.from_residual.ensures)
 
 pub created-requires : goal.created-requires
-created-requires c = search creates
+created-requires c = search (creates, c.in_ok-may_create_hard.was)
 
 pub done_with-requires : goal.done_with-requires
-done_with-requires c = search creates
+done_with-requires c = search (creates, c.in_ok-may_create_hard.was)
 
-pub returns-in-Refuses : goal.returns-in-Refuses
-unfolding effect
-returns-in-Refuses c = search creates
+pub overflow_cast-class : goal.overflow_cast-class
+overflow_cast-class c = search (creates, c.in_ok-may_create_hard.was)
 
-pub returns-in-Accepts : goal.returns-in-Accepts
+pub overflow_cast-class-2 : goal.overflow_cast-class-2
+overflow_cast-class-2 c = search (creates, c.in_ok-may_create_hard.was)
+
+pub returns : goal.returns
 unfolding effect
-returns-in-Accepts c = search creates
+returns c = search (creates, c.in_ok-may_create_hard.was)

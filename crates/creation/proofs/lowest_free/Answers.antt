@@ -1,7 +1,8 @@
 -- The loop stops at the lowest FREE record. Assumes nothing.
-use Rattle.std.proofs.Common.{◌≢◌, sym, ◌∙◌, rules}
-use borrow.Author.Tests.{eq-eqb, ne_eqb}
+use Rattle.std.proofs.Common.{◌≡◌, true, false, sym, rules, arith}
 use Rattle.kernel.specs.Status.{FREE}
+use Rattle.kernel.specs.Kernel.{task, is}
+use Rattle.kernel.specs.Seen.{seen}
 use Rattle.kernel.specs.Tasks.{lowest_free}
 use Rattle.kernel.proofs.Lowest.{begins, stops, goes_on, ends}
 use Rattle.creation.proofs.lowest_free.Goals as goal
@@ -9,14 +10,16 @@ use Rattle.creation.proofs.lowest_free.Goals as goal
 pub loop-i-init : goal.loop-i-init
 loop-i-init c = begins
 
-pub returns-then-status_of-eq-FREE : goal.returns-then-status_of-eq-FREE
+pub returns-then-eq : goal.returns-then-eq
 unfolding lowest_free
-returns-then-status_of-eq-FREE c = sym (stops c.loop-i.invariant c.loop-i-test.true (eq-eqb _ _ (sym c.status_of.ensures ∙ c.if-status_of-eq-FREE.true)))
+returns-then-eq c =
+    let free : is FREE (task (seen c.args.w.now) c.loop-i.i) ≡ true = grind arith in
+    sym (stops c.loop-i.invariant c.loop-i-test.true free)
 
 pub loop-i-preserved : goal.loop-i-preserved
 loop-i-preserved c =
-    let used : c.status_of.result ≢ FREE = search rules in
-    goes_on c.loop-i.invariant c.loop-i-test.true (ne_eqb _ _ (λ e. used (c.status_of.ensures ∙ e)))
+    let used : is FREE (task (seen c.args.w.now) c.loop-i.i) ≡ false = grind arith in
+    goes_on c.loop-i.invariant c.loop-i-test.true used
 
 pub returns : goal.returns
 unfolding lowest_free

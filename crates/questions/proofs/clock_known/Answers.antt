@@ -1,9 +1,12 @@
--- The rows of clock, and then its number. Assumes nothing.
-use Rattle.std.proofs.Common.{◌<◌, arith}
+-- The rows of the question, and then its number. Assumes nothing.
 use Rattle.kernel.specs.Calls.{effect}
 use Rattle.refusals.proofs.Answers.{behind}
 use Rattle.questions.proofs.clock_known.Goals as goal
 
+pub returns-in_err-every_call : goal.returns-in_err-every_call
+unfolding effect
+returns-in_err-every_call c = search (behind, c.in_err-every_call.was, c.from_residual.ensures)
+
 pub returns : goal.returns
 unfolding effect
-returns c = let l : c.clock-number.result < 9223372036854775808 = omega arith in search behind
+returns c = search (behind, c.in_ok-every_call.was)

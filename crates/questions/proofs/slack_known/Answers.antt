@@ -1,12 +1,12 @@
--- Slack answers as the table and the model say. Assumes nothing.
-use Rattle.std.proofs.Common.{◌≡◌, refl, ◌∙◌, rules, w64, to_z, of_z}
+-- The rows of the question, and then its number. Assumes nothing.
 use Rattle.kernel.specs.Calls.{effect}
-use Rattle.refusals.proofs.Answers.{asked}
+use Rattle.refusals.proofs.Answers.{behind}
 use Rattle.questions.proofs.slack_known.Goals as goal
+
+pub returns-in_err-may_ask : goal.returns-in_err-may_ask
+unfolding effect
+returns-in_err-may_ask c = search (behind, c.in_err-may_ask.was, c.from_residual.ensures)
 
 pub returns : goal.returns
 unfolding effect
-returns c =
-    let n = c.slack_of-number in
-    let bits : to_z w64 (of_z w64 n.result) ≡ n.result = search rules in
-    asked c.requires c.may_ask-verdict.ensures.slack c.answer.ensures (bits ∙ n.ensures) (λ m. refl)
+returns c = search (behind, c.in_ok-may_ask.was)

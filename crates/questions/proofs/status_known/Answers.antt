@@ -1,9 +1,12 @@
--- The rows of status, and then its number. Assumes nothing.
+-- The rows of the question, and then its number. Assumes nothing.
 use Rattle.kernel.specs.Calls.{effect}
 use Rattle.refusals.proofs.Answers.{behind}
-use Rattle.questions.proofs.Numbers.{status_small}
 use Rattle.questions.proofs.status_known.Goals as goal
+
+pub returns-in_err-may_ask_status : goal.returns-in_err-may_ask_status
+unfolding effect
+returns-in_err-may_ask_status c = search (behind, c.in_err-may_ask_status.was, c.from_residual.ensures)
 
 pub returns : goal.returns
 unfolding effect
-returns c = search (behind, status_small)
+returns c = search (behind, c.in_ok-may_ask_status.was)

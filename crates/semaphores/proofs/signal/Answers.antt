@@ -1,8 +1,0 @@
--- The test, and then signal. Assumes nothing.
-use Rattle.kernel.specs.Calls.{effect}
-use Rattle.refusals.proofs.Answers.{border}
-use Rattle.semaphores.proofs.signal.Goals as goal
-
-pub returns-then-not-sound : goal.returns-then-not-sound
-unfolding effect
-returns-then-not-sound c = search border
