@@ -5,7 +5,7 @@ use Rattle.kernel.specs.Sizes.{channel_count}
 use Rattle.kernel.specs.Refusals.{Row, -6, when, no_channel}
 use Rattle.kernel.specs.Seen.{seen}
 use Rattle.kernel.proofs.Allowed.{channel_in_use}
-use Rattle.refusals.specs.declared.Verdict.TheVariants.{Accepts}
+use Rattle.std.specs.Prelude.{Ok}
 use Rattle.refusals.specs.Tested.{Tested, of_lent}
 use Rattle.refusals.proofs.Says.{none_of}
 

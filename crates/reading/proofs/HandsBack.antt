@@ -18,9 +18,8 @@ use Rattle.kernel.specs.Promise.{handed_back, Loan, reply, given, Known, Showing
 use Rattle.kernel.proofs.Allowed.{Allowed, ChannelInUse}
 use Rattle.kernel.proofs.Messages.{reading_open}
 use Rattle.kernel.proofs.Shows.{kept, itself}
-use Rattle.refusals.specs.declared.Verdict.{Verdict}
-use Rattle.refusals.specs.declared.Verdict.TheVariants.{Accepts, Refuses}
-use Rattle.refusals.specs.Tested.{refuses, number_of, Judged}
+use Rattle.std.specs.Prelude.{Ok, Err}
+use Rattle.refusals.specs.Tested.{Said, refuses, number_of, Judged}
 use Rattle.refusals.proofs.Answers.{lets_pass, turned_down, carried_out}
 use Rattle.channels.proofs.Holds.{holds}
 use Rattle.reading.specs.Message.{message, by_verdict, Showable}
@@ -35,7 +34,7 @@ all_of x =
 -- A call that shows the message on channel n, or hands back x instead.
 module _ {c : Call} {w : List ℕ} (l : Loan) (n : ℕ) (other : Shown) (x : Slice) (is : effect c (seen w) l.memory.bytes ≡ showed n other (seen w) l.memory.bytes)
     (due : handed_back other l ≡ some x) where
-  pub shows : (v : Verdict) → Sound w → Judged c w l.memory.bytes v
+  pub shows : (v : Said) → Sound w → Judged c w l.memory.bytes v
       → ShowingKnown c w l.memory l.standby (by_verdict v (message (seen w) n l.memory) x) (refuses v) (number_of v)
   shows Accepts h j = carried_out l j refl is (itself (kept h))
   shows (Refuses y) h j =
@@ -43,7 +42,7 @@ module _ {c : Call} {w : List ℕ} (l : Loan) (n : ℕ) (other : Shown) (x : Sli
       (turned_down l j refl (ap (λ (e : Effect). e.instead) is))
 
 -- What a showing's verdict says, so that the message can be shown.
-pub showable : {c : Call} {w m : List ℕ} {n : ℕ} {v : Verdict} → Sound w → Judged c w m v
+pub showable : {c : Call} {w m : List ℕ} {n : ℕ} {v : Said} → Sound w → Judged c w m v
     → (Allowed c (seen w) m → (length m ≡ memory_size) × ChannelInUse (seen w) n × (is_reading (own (seen w) n) ≡ true)) → Showable w n v m
 showable {w = w} {n = n} h j told =
     record {

@@ -23,9 +23,8 @@ use Rattle.kernel.specs.Shows.{Kept, Shows}
 use Rattle.kernel.proofs.Lowest.{found}
 use Rattle.words.proofs.Entries.{semaphore_set}
 use Rattle.queues.specs.First.{First}
-use Rattle.refusals.specs.declared.Verdict.{Verdict}
-use Rattle.refusals.specs.declared.Verdict.TheVariants.{Accepts}
-use Rattle.refusals.specs.Tested.{Refusal, Legal}
+use Rattle.std.specs.Prelude.{Ok}
+use Rattle.refusals.specs.Tested.{Said, Verdict, Legal}
 use Rattle.refusals.proofs.Answers.{allows, legal}
 
 -- A legal new semaphore finds an unused one.
@@ -33,7 +32,7 @@ pub room : {w : List ℕ} {count : ℕ} → Legal (verb (new_semaphore count)) w
 unfolding lowest_semaphore
 room l = (found semaphore_count _ (allows l).allowed.1).0
 
-pub room_numbered : {w : List ℕ} {count n : ℕ} {v : Verdict} → Refusal (verb (new_semaphore count)) w v → Sound w → v ≡ Accepts → n ≡ lowest_semaphore (seen w) → n < 9223372036854775808
+pub room_numbered : {w : List ℕ} {count n : ℕ} {v : Said} → Verdict (verb (new_semaphore count)) w v → Sound w → v ≡ Ok tt → n ≡ lowest_semaphore (seen w) → n < 9223372036854775808
 room_numbered t h a e = let l = room (legal t h a) in omega arith
 
 -- Semaphore s, used, has this count from now on.

@@ -4,16 +4,16 @@ use Rattle.refusals.proofs.Answers.{behind}
 use Rattle.semaphores.proofs.Cases.{room_numbered}
 use Rattle.semaphores.proofs.new_semaphore_known.Goals as goal
 
+pub returns-in_err-may_make : goal.returns-in_err-may_make
+unfolding effect
+returns-in_err-may_make c = search (behind, c.in_err-may_make.was, c.from_residual.ensures)
+
 pub made-requires-clause-legal : goal.made-requires-clause-legal
-made-requires-clause-legal c = search behind
+made-requires-clause-legal c = search (behind, c.in_ok-may_make.was)
 
 pub done_with-requires : goal.done_with-requires
-done_with-requires c = search (behind, room_numbered)
+done_with-requires c = search (behind, room_numbered, c.in_ok-may_make.was)
 
-pub returns-in-Refuses : goal.returns-in-Refuses
+pub returns : goal.returns
 unfolding effect
-returns-in-Refuses c = search behind
-
-pub returns-in-Accepts : goal.returns-in-Accepts
-unfolding effect
-returns-in-Accepts c = search behind
+returns c = search (behind, c.in_ok-may_make.was)
