@@ -18,7 +18,7 @@ ghost use Rattle.kernel.specs.Seen.{seen};
 ghost use Rattle.kernel.specs.Sound.{Sound};
 ghost use Rattle.kernel.specs.Shows.{Kept, Shows};
 ghost use Rattle.kernel.specs.Promise.{Unlent, UnlentKnown};
-ghost use Rattle.refusals.specs.Tested.{Tested, Verdict, Legal, of_lent, unsound_number};
+ghost use Rattle.refusals.specs.Tested.{Tested, Verdict, Legal, of_lent};
 ghost use Rattle.channels.specs.Session.{fits, Holds};
 
 use kernel::{Answer, Channel, Refusal, Reply, Session, State};

@@ -56,7 +56,7 @@ pub fn begin_reading(s: State, channel: ChannelNo, memory: &[u8]) -> Reply
 {
     let mut w = s.words;
     if !soundness::sound(&w) {
-        return refusals::reply(w, Err(refusals::unsound(memory.len())));
+        return refusals::unsound_lent(w, memory.len());
     }
     let answer = begin_reading_known(&mut w, channel.0, memory);
     refusals::reply(w, answer)
@@ -166,7 +166,7 @@ pub fn close(s: State, channel: ChannelNo, memory: &[u8]) -> Reply
 {
     let mut w = s.words;
     if !soundness::sound(&w) {
-        return refusals::reply(w, Err(refusals::unsound(memory.len())));
+        return refusals::unsound_lent(w, memory.len());
     }
     let answer = close_known(&mut w, channel.0, memory);
     refusals::reply(w, answer)

@@ -134,3 +134,10 @@ pub fn unsound(memory: usize) -> Refusal
     }
     Refusal::NotSound
 }
+
+// Such a state comes back as it was.
+pub fn unsound_lent(w: [u32; State::WORDS], memory: usize) -> Reply
+    ensures { result ≡ reply w (Err (Tested.unsound memory)) }
+{
+    reply(w, Err(unsound(memory)))
+}

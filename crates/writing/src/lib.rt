@@ -66,7 +66,7 @@ pub fn begin_write(s: State, channel: ChannelNo, memory: &mut [u8]) -> Reply
 {
     let mut w = s.words;
     if !soundness::sound(&w) {
-        return refusals::reply(w, Err(refusals::unsound(memory.len())));
+        return refusals::unsound_lent(w, memory.len());
     }
     let answer = begin_write_known(&mut w, channel.0, memory);
     refusals::reply(w, answer)
@@ -121,7 +121,7 @@ pub fn piece(s: State, channel: ChannelNo, offset: usize, bytes: &[u8], memory: 
 {
     let w = s.words;
     if !soundness::sound(&w) {
-        return refusals::reply(w, Err(refusals::unsound(memory.len())));
+        return refusals::unsound_lent(w, memory.len());
     }
     let answer = piece_known(&w, channel.0, offset, bytes, memory);
     refusals::reply(w, answer)
@@ -160,7 +160,7 @@ pub fn put(s: State, channel: ChannelNo, memory: &[u8]) -> Reply
 {
     let mut w = s.words;
     if !soundness::sound(&w) {
-        return refusals::reply(w, Err(refusals::unsound(memory.len())));
+        return refusals::unsound_lent(w, memory.len());
     }
     let answer = put_known(&mut w, channel.0, memory);
     refusals::reply(w, answer)

@@ -23,27 +23,27 @@ pub held-place-requires : goal.held-place-requires
 unfolding effect written
 held-place-requires c =
     let k = c.args in
-    let a = lets_pass (c.may_write-verdict.ensures k.bytes.now refl k.memory.now refl) c.in-Accepts.is in
+    let a = lets_pass (c.may_write.ensures k.bytes.now refl k.memory.now refl) c.in_ok-may_write.was in
     holding k.w.now k.memory.now k.bytes.now k.c k.offset c.requires a
 
 pub overflow_add-place : goal.overflow_add-place
 unfolding effect written
 overflow_add-place c =
     let k = c.args in
-    let a = lets_pass (c.may_write-verdict.ensures k.bytes.now refl k.memory.now refl) c.in-Accepts.is in
+    let a = lets_pass (c.may_write.ensures k.bytes.now refl k.memory.now refl) c.in_ok-may_write.was in
     Fits-under w64 _ 18446744073709551616 (rw c.held-place.ensures (omega (arith, a.3, held_inside (holding k.w.now k.memory.now k.bytes.now k.c k.offset c.requires a)))) tt
 
 pub write-requires : goal.write-requires
 unfolding effect written
 write-requires c =
     let k = c.args in
-    let a = lets_pass (c.may_write-verdict.ensures k.bytes.now refl k.memory.now refl) c.in-Accepts.is in
+    let a = lets_pass (c.may_write.ensures k.bytes.now refl k.memory.now refl) c.in_ok-may_write.was in
     rw c.held-place.ensures (omega (arith, a.0, a.3, held_inside (holding k.w.now k.memory.now k.bytes.now k.c k.offset c.requires a)))
 
-pub returns-in-Refuses : goal.returns-in-Refuses
+pub returns-in_err-may_write : goal.returns-in_err-may_write
 unfolding effect written
-returns-in-Refuses c = lent_refused (c.may_write-verdict.ensures c.args.bytes.now refl) c.in-Refuses.is c.refuse.ensures refl
+returns-in_err-may_write c = lent_refused (c.may_write.ensures c.args.bytes.now refl) c.in_err-may_write.was c.from_residual.ensures refl
 
-pub returns-in-Accepts : goal.returns-in-Accepts
+pub returns : goal.returns
 unfolding effect written
-returns-in-Accepts c = rw (c.write.ensures, c.held-place.ensures) (lent_took_effect (c.may_write-verdict.ensures c.args.bytes.now refl) c.in-Accepts.is (itself (kept c.requires)) refl)
+returns c = rw (c.write.ensures, c.held-place.ensures) (lent_took_effect (c.may_write.ensures c.args.bytes.now refl) c.in_ok-may_write.was (itself (kept c.requires)) refl)
