@@ -4,10 +4,10 @@ use Rattle.kernel.specs.Calls.{effect}
 use Rattle.refusals.proofs.Answers.{behind}
 use Rattle.reading.proofs.close_known.Goals as goal
 
-pub returns-in-Refuses : goal.returns-in-Refuses
+pub returns-in_err-on_channel : goal.returns-in_err-on_channel
 unfolding effect Channels.close
-returns-in-Refuses c = search behind
+returns-in_err-on_channel c = search (behind, c.in_err-on_channel.was, c.from_residual.ensures)
 
-pub returns-in-Accepts : goal.returns-in-Accepts
+pub returns : goal.returns
 unfolding effect Channels.close
-returns-in-Accepts c = search behind
+returns c = search (behind, c.in_ok-on_channel.was)

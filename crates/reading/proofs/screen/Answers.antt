@@ -1,5 +1,5 @@
 -- The test, and then the screen call. Assumes nothing.
-use Rattle.std.proofs.Common.{◌≡◌, refl, to_z, of_z, w64, rules}
+use Rattle.std.proofs.Common.{refl}
 use Rattle.kernel.specs.Calls.{effect}
 use Rattle.kernel.specs.Slices.{slice}
 use Rattle.kernel.specs.Promise.{lent}
@@ -9,6 +9,4 @@ use Rattle.reading.proofs.screen.Goals as goal
 pub returns-then-not-sound : goal.returns-then-not-sound
 unfolding effect
 returns-then-not-sound c =
-    let bits : to_z w64 (of_z w64 c.unsound_number.result) ≡ c.unsound_number.result = search rules in
-    rw (bits, c.unsound_number.ensures)
-    (unsound_answers c.sound.ensures (lent (slice c.args.memory) (slice c.args.standby)) c.if-not-sound.true (unsound_row c.args.s.words c.args.memory.now) refl)
+    rw c.unsound.ensures (unsound_answers c.sound.ensures (lent (slice c.args.memory) (slice c.args.standby)) c.if-not-sound.true (unsound_row c.args.s.words c.args.memory.now) refl)

@@ -1,5 +1,5 @@
 -- The test, and then a showing. Assumes nothing.
-use Rattle.std.proofs.Common.{◌≡◌, refl, to_z, of_z, w64, rules}
+use Rattle.std.proofs.Common.{refl}
 use Rattle.kernel.specs.Calls.{effect}
 use Rattle.kernel.specs.Slices.{slice}
 use Rattle.kernel.specs.Promise.{lent}
@@ -9,9 +9,8 @@ use Rattle.reading.proofs.showing.Goals as goal
 pub returns-then-not-sound : goal.returns-then-not-sound
 unfolding effect
 returns-then-not-sound c =
-    let bits : to_z w64 (of_z w64 c.unsound_number.result) ≡ c.unsound_number.result = search rules in
     λ text.
-    rw (bits, c.unsound_number.ensures, c.part.ensures)
+    rw (c.unsound.ensures, c.part.ensures)
     (unsound_answers c.sound.ensures (lent (slice c.args.memory) text) c.if-not-sound.true (unsound_row c.args.s.words c.args.memory.now) refl)
 
 pub returns : goal.returns
