@@ -49,8 +49,8 @@ pub fn number_of(answer: Answer) -> i64
     ensures { result ≡ (said answer).number }
 {
     match answer {
-        Answer::Done(n) => n,
-        Answer::Refused(n) => n,
+        Ok(n) => n,
+        Err(refusal) => refusal.number(),
     }
 }
 

@@ -6,7 +6,7 @@ ghost use Rattle.kernel.specs.Sound.{Sound};
 ghost use Rattle.kernel.specs.Promise.{Unlent, reply, UnlentKnown};
 ghost use Rattle.verbs.specs.Verbs.{verb_of};
 
-use kernel::{Answer, SemaphoreNo, State, TaskNo};
+use kernel::{Answer, Refusal, SemaphoreNo, State, TaskNo};
 
 // The verbs of document 01's scripts, with whatever numbers they are handed.
 #[derive(Clone, Copy)]
@@ -51,7 +51,7 @@ pub fn make(w: &mut [u32; State::WORDS], asked: Verb) -> Answer
     ensures { Unlent (verb (verb_of asked)) (record { words = w.old }) (reply w.new result) }
 {
     if !soundness::sound(w) {
-        return Answer::Refused(State::NOT_SOUND);
+        return Err(Refusal::NotSound);
     }
     make_known(w, asked)
 }

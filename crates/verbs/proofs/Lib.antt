@@ -1,2 +1,0 @@
--- What verbs show.
-pub mod Refused
