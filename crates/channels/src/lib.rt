@@ -1,9 +1,5 @@
 // Open, and what the calls on an open channel share: their first rows, and the place of the buffer that a session holds.
-#![tactic(
-    auto,
-    using(refusals::proofs::Answers::behind),
-    unfolding(kernel::specs::Calls::effect)
-)]
+#![tactic(auto, using(refusals::proofs::Answers::behind), unfolding(kernel::specs::Calls::effect))]
 
 ghost use Rattle.std.specs.Prelude.{◌≡◌, ◌&&◌, [], ◌∷◌, ◌<◌};
 ghost use Rattle.kernel.specs.Sizes.{channel_count, longest_message, fewest_buffers, most_buffers, within};
@@ -131,7 +127,12 @@ fn fits(session: Session, kind: Kind) -> bool
 }
 
 // The rows of a call on channel c that needs such a session, where a memory of so many bytes is lent.
-pub fn on_channel(w: &[u32; State::WORDS], memory: usize, c: usize, kind: Kind) -> Result<(), Refusal>
+pub fn on_channel(
+    w: &[u32; State::WORDS],
+    memory: usize,
+    c: usize,
+    kind: Kind,
+) -> Result<(), Refusal>
     requires { Sound w.now }
     ensures { Tested (of_lent w.now memory (when -6 (no_channel (seen w.now) c) ∷ unless -14 (fits kind (own (seen w.now) c)) ∷ [])) result }
 {

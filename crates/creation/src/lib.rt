@@ -1,9 +1,5 @@
 // Create, HARD and NRT.
-#![tactic(
-    auto,
-    using(refusals::proofs::Answers::behind),
-    unfolding(kernel::specs::Calls::effect)
-)]
+#![tactic(auto, using(refusals::proofs::Answers::behind), unfolding(kernel::specs::Calls::effect))]
 
 ghost use Rattle.std.specs.Prelude.{◌≡◌, ◌+◌, ◌≤◌, ltb};
 ghost use Rattle.kernel.specs.declared.Class.TheVariants.{Hard};
@@ -83,7 +79,12 @@ fn too_much(w: &[u32; State::WORDS], period: u64, cost: u64) -> bool
 }
 
 // Record i is the lowest FREE one.
-pub fn may_create_hard(w: &[u32; State::WORDS], i: usize, period: u64, cost: u64) -> Result<(), Refusal>
+pub fn may_create_hard(
+    w: &[u32; State::WORDS],
+    i: usize,
+    period: u64,
+    cost: u64,
+) -> Result<(), Refusal>
     requires { i ≡ Tasks.lowest_free (seen w.now) }
     ensures { Verdict (verb (Calls.create_hard period cost)) w.now result }
 {

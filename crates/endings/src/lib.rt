@@ -1,9 +1,5 @@
 // End and kill.
-#![tactic(
-    auto,
-    using(refusals::proofs::Answers::behind),
-    unfolding(kernel::specs::Calls::effect)
-)]
+#![tactic(auto, using(refusals::proofs::Answers::behind), unfolding(kernel::specs::Calls::effect))]
 
 ghost use Rattle.std.specs.Prelude.{◌<◌};
 ghost use Rattle.kernel.specs.Sizes.{task_count, channel_count};

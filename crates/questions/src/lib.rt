@@ -1,9 +1,5 @@
 // What the kernel is asked: clock, status, deadline, slack and period. The words stay as they were.
-#![tactic(
-    auto,
-    using(refusals::proofs::Answers::behind),
-    unfolding(kernel::specs::Calls::effect)
-)]
+#![tactic(auto, using(refusals::proofs::Answers::behind), unfolding(kernel::specs::Calls::effect))]
 
 ghost use Rattle.std.specs.Prelude.{◌≡◌, not, ◌||◌, pos, ◌-ℤ◌};
 ghost use Rattle.kernel.specs.Kernel.{task, hard, period_of};

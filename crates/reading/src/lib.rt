@@ -1,9 +1,5 @@
 // Begin reading, showing, the screen call and close.
-#![tactic(
-    auto,
-    using(refusals::proofs::Answers::behind),
-    unfolding(kernel::specs::Calls::effect)
-)]
+#![tactic(auto, using(refusals::proofs::Answers::behind), unfolding(kernel::specs::Calls::effect))]
 
 ghost use Rattle.std.specs.Prelude.{◌≡◌};
 ghost use Rattle.kernel.specs.Kernel.{channel};
@@ -72,12 +68,7 @@ pub struct HandedBack<'a> {
 }
 
 // The message that the running task's reading holds, as a part of the memory, uncopied; where that is refused, the other slice.
-fn shown<'a>(
-    w: &[u32; State::WORDS],
-    c: usize,
-    memory: &'a [u8],
-    other: &'a [u8],
-) -> HandedBack<'a>
+fn shown<'a>(w: &[u32; State::WORDS], c: usize, memory: &'a [u8], other: &'a [u8]) -> HandedBack<'a>
     requires { Sound w.now }
     ensures { Shown w.now c (slice memory.entry) (slice other.entry) result.answer (slice result.slice) }
 {

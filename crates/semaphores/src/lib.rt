@@ -1,9 +1,5 @@
 // New semaphore, delete, wait and signal.
-#![tactic(
-    auto,
-    using(refusals::proofs::Answers::behind),
-    unfolding(kernel::specs::Calls::effect)
-)]
+#![tactic(auto, using(refusals::proofs::Answers::behind), unfolding(kernel::specs::Calls::effect))]
 
 ghost use Rattle.std.specs.Prelude.{◌≡◌, not, ◌||◌};
 ghost use Rattle.kernel.specs.Status.{waiters};

@@ -1,9 +1,5 @@
 // The clock tick.
-#![tactic(
-    auto,
-    using(refusals::proofs::Answers::behind),
-    unfolding(kernel::specs::Calls::effect)
-)]
+#![tactic(auto, using(refusals::proofs::Answers::behind), unfolding(kernel::specs::Calls::effect))]
 
 ghost use Rattle.std.specs.Prelude.{◌≡◌, ◌+◌, ◌-◌, ◌≤◌, ◌<◌};
 ghost use Rattle.kernel.specs.Sizes.{task_count};

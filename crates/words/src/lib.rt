@@ -1,19 +1,5 @@
 // The leaves: what is read of a state's words, and what is written to them. No other code knows where a word stands.
-#![tactic(
-    auto,
-    using(kernel::proofs::Codes::told),
-    unfolding(
-        kernel::specs::Codes::link,
-        kernel::specs::Codes::class_of,
-        kernel::specs::Codes::status_of,
-        kernel::specs::Codes::stop_of,
-        kernel::specs::Codes::semaphore_of,
-        kernel::specs::Codes::latest_of,
-        kernel::specs::Codes::session_of,
-        crate::specs::Writes::with_lead,
-        crate::specs::Writes::with_previous
-    )
-)]
+#![tactic(auto, using(kernel::proofs::Codes::told), unfolding(kernel::specs::Codes::link, kernel::specs::Codes::class_of, kernel::specs::Codes::status_of, kernel::specs::Codes::stop_of, kernel::specs::Codes::semaphore_of, kernel::specs::Codes::latest_of, kernel::specs::Codes::session_of, crate::specs::Writes::with_lead, crate::specs::Writes::with_previous))]
 
 ghost use Rattle.std.specs.Prelude.{◌≡◌, ◌<◌, ◌+◌, ◌*◌, length, set};
 ghost use Rattle.kernel.specs.Sizes.{task_count, semaphore_count, channel_count};
