@@ -7,7 +7,7 @@ use mathlib.Core.Option.{Option, none, some}
 use Prim.Native.Nat.{ℕ}
 use lib.IntN.{ℤ, pos}
 use denote.Ref.{Bor, MutBor}
-use Rattle.kernel.specs.declared.Answer.TheVariants.{Done, Refused}
+use Rattle.std.specs.Prelude.{Ok, Err}
 use Rattle.kernel.specs.declared.State.{State}
 use Rattle.kernel.specs.declared.Reply.{Reply}
 use Rattle.kernel.specs.Calls as Calls
@@ -18,14 +18,16 @@ use Rattle.kernel.specs.Seen.{seen}
 use Rattle.kernel.specs.Sound.{Sound}
 use Rattle.kernel.specs.Slices.{Slice, slice, part_of}
 use Rattle.kernel.specs.Shows.{Shows}
-use Rattle.kernel.specs.Promise.{handed, handed_back, Loan, Given, Gives, Answered, answer_of, reply, Unlent, Lent, Showing}
+use Rattle.kernel.specs.Promise.{handed, handed_back, Loan, Given, Gives, Answered, reply, Unlent, Lent, Showing}
+use Rattle.kernel.proofs.Said.{refusal_of}
 use Rattle.kernel.proofs.Shows.{kept, itself}
 use Rattle.kernel.proofs.Decided.{yes as truly, no as untrue}
 use Rattle.kernel.proofs.Allowed.{allowed}
 use Rattle.laws_words.proofs.Shown.{words_of, shown}
-use Rattle.laws_promises.proofs.Answers.{says, next_good}
+use Rattle.laws_promises.proofs.Answers.{says, has_number, next_good}
 use Rattle.laws_promises.proofs.Soundness.{sound?}
 use Rattle.laws_promises.proofs.Showings.{held_message}
+use Rattle.reading.specs.declared.HandedBack.{HandedBack}
 use Rattle.laws_demands.specs.Functions.{Made, tick, create_hard, create_nrt, activate, sleep, cycle, end, kill, new_semaphore, delete, wait, signal, clock, status, deadline, period, slack, open_channel, begin_write, piece, put, begin_reading, showing, close, screen}
 use Rattle.laws_demands.specs.Every.{GivenBy}
 use Rattle.laws_demands.proofs.Functions.{anywhere}
@@ -94,9 +96,9 @@ module _ (s : State) (m : List ℕ) where
 
         go : (o : Option ℤ) → judged c ≡ o → GivenBy s m c
         go (some x) e =
-            given (made (reply w (Refused x)) (λ l. answered (everywhere e l) (λ i. effect_is i l.memory.bytes) (record { answer = refl; state = refl; running = refl; memory = refl; shown = refl })))
+            given (made (reply w (Err (refusal_of x))) (λ l. answered (everywhere e l) (λ i. effect_is i l.memory.bytes) (record { answer = has_number c (handed sound w m) e; state = refl; running = refl; memory = refl; shown = refl })))
         go none e =
-            given (made (reply (words_of (does c).kernel) (Done (does c).number))
+            given (made (reply (words_of (does c).kernel) (Ok (does c).number))
             (λ l. answered (everywhere e l) (λ i. effect_is i l.memory.bytes) (record { answer = refl; state = next c e; running = refl; memory = refl; shown = refl })))
 
     -- One that is lent the memory, and leaves the bytes n in it where nothing refuses its call.
@@ -106,9 +108,9 @@ module _ (s : State) (m : List ℕ) where
     lent n is unwritten wrote = go (judged c) refl
       where
         go : (o : Option ℤ) → judged c ≡ o → GivenBy s m c
-        go (some x) e = given (unwritten (reply w (Refused x)) (λ text. answered e is (record { answer = refl; state = refl; running = refl; memory = refl; shown = refl })))
+        go (some x) e = given (unwritten (reply w (Err (refusal_of x))) (λ text. answered e is (record { answer = has_number c (handed sound w m) e; state = refl; running = refl; memory = refl; shown = refl })))
         go none e =
-            given (wrote (reply (words_of (does c).kernel) (Done (pos 0))) (λ text. answered e is (record { answer = refl; state = next c e; running = refl; memory = refl; shown = refl })))
+            given (wrote (reply (words_of (does c).kernel) (Ok (pos 0))) (λ text. answered e is (record { answer = refl; state = next c e; running = refl; memory = refl; shown = refl })))
 
     -- One that only reads it, and one that writes into it.
     reads : does c ≡ with_memory (done (does c).kernel) m → ((r : Reply) → Lent c s (anywhere m) r m → Made s m r c m none) → GivenBy s m c
@@ -119,16 +121,17 @@ module _ (s : State) (m : List ℕ) where
 
     -- One that shows the message on channel n or, refused, the slice x.
     shows : (n : ℕ) (other : Shown) (x : Slice) → does c ≡ showed n other (seen w) m
-        → ((g : Bor (List ℕ)) (mark : MutBor Bool) (number : MutBor ℤ)
-        → ((text : Slice) → handed_back other (with_text text) ≡ some x → Showing c s (anywhere m) text (slice g) mark.now number.now)
-        → Made s m (reply w (answer_of mark.now number.now)) c m (some g.now))
+        → ((back : HandedBack) → ((text : Slice) → handed_back other (with_text text) ≡ some x → Showing c s (anywhere m) text back.answer (slice back.slice))
+        → Made s m (reply w back.answer) c m (some back.slice.now))
         → GivenBy s m c
     shows n other x is made = go (judged c) refl
       where
         go : (o : Option ℤ) → judged c ≡ o → GivenBy s m c
-        go (some y) e = given (made (to_slice x) (to_mut true) (to_mut y) (λ text due. answered e is (record { answer = refl; state = refl; running = refl; memory = refl; shown = sym due })))
+        go (some y) e =
+            given (made (record { slice = to_slice x; answer = Err (refusal_of y) })
+            (λ text due. answered e is (record { answer = has_number c (handed sound w m) e; state = refl; running = refl; memory = refl; shown = sym due })))
         go none e =
-            given (made (to_slice (held_message s n (with_text (anywhere [])))) (to_mut false) (to_mut (pos 0))
+            given (made (record { slice = to_slice (held_message s n (with_text (anywhere []))); answer = Ok (pos 0) })
             (λ text due. answered e is (record { answer = refl; state = itself (kept (passed c e)); running = refl; memory = refl; shown = refl })))
 
   -- **every_call**: whatever the state, the call and the bytes of the memory, there is a reply that the function's contract permits.
@@ -158,8 +161,8 @@ module _ (s : State) (m : List ℕ) where
   every_call (on_channel (Calls.begin_reading x)) = reads refl (λ r. begin_reading ([], tt) (record { 0 = x }) (to m) refl)
   every_call (on_channel (Calls.showing x)) =
       shows x (part 0 0) (part_of (anywhere m) 0 0) refl
-      (λ g mark number p. showing ([], ([], ([], tt))) (record { 0 = x }) (to m) g mark mark number number refl (λ text. p text refl) refl)
+      (λ back p. showing ([], tt) (record { 0 = x }) (to m) back refl (λ text. p text refl) refl)
   every_call (on_channel (Calls.close x)) = reads refl (λ r. close ([], tt) (record { 0 = x }) (to m) refl)
   every_call (on_channel (Calls.screen x text)) =
       shows x standby (anywhere text) refl
-      (λ g mark number p. screen ([], ([], ([], tt))) (record { 0 = x }) (to m) (to text) g mark mark number number refl (p (anywhere text) refl) refl)
+      (λ back p. screen ([], tt) (record { 0 = x }) (to m) (to text) back refl (p (anywhere text) refl) refl)

@@ -4,12 +4,12 @@ use mathlib.Core.List.{List, []}
 use mathlib.Core.Option.{Option, none, some}
 use Prim.Native.Nat.{ℕ}
 use denote.Ref.{Bor}
-use Rattle.kernel.specs.declared.Answer.{Answer}
 use Rattle.kernel.specs.declared.State.{State}
 use Rattle.kernel.specs.declared.Reply.{Reply}
 use Rattle.kernel.specs.Calls.{Call}
 use Rattle.kernel.specs.Slices.{Slice, slice, slice_mut}
-use Rattle.kernel.specs.Promise.{Loan, Answered, Unlent, Lent, answer_of, reply}
+use Rattle.kernel.specs.Promise.{Loan, Answered, Unlent, Lent, Showing, reply}
+use Rattle.reading.specs.declared.HandedBack.{HandedBack}
 use Rattle.laws_runs.specs.Trace.{asks, instead}
 use Rattle.laws_demands.specs.Functions.{Made, tick, create_hard, create_nrt, activate, sleep, cycle, end, kill, new_semaphore, delete, wait, signal, clock, status, deadline, period, slack, open_channel, begin_write, piece, put, begin_reading, showing, close, screen}
 
@@ -55,17 +55,18 @@ module _ {s : State} {m : List ℕ} {r : Reply} where
   reads : {c : Call} (memory : Bor (List ℕ)) → instead (asks c) ≡ [] → memory.now ≡ m → Lent c s (slice memory) r memory.now → Promised s m r c m none
   reads {c} memory e held p = lent (slice memory) m e held (subst (Lent c s (slice memory) r) held p)
 
-  -- One that hands back a slice, and its answer through references.
-  shows : {c : Call} (memory given : Bor (List ℕ)) (text : Slice) (a : Answer) → text.bytes ≡ instead (asks c) → memory.now ≡ m → r ≡ reply s.words a
-      → Answered c s (record { memory = slice memory; standby = text }) (record { reply = reply s.words a; memory = memory.now; shown = some (slice given) })
-      → Promised s m r c m (some given.now)
-  shows {c} memory given text a e held f p =
+  -- One that hands back a slice, and its answer beside it.
+  shows : {c : Call} (memory : Bor (List ℕ)) (back : HandedBack) (text : Slice) → text.bytes ≡ instead (asks c) → memory.now ≡ m → r ≡ reply s.words back.answer
+      → Showing c s (slice memory) text back.answer (slice back.slice)
+      → Promised s m r c m (some back.slice.now)
+  shows {c} memory back text e held f p =
       let l : Loan = record { memory = slice memory; standby = text } in
-      let replied = subst (λ (x : Reply). Answered c s l (record { reply = x; memory = memory.now; shown = some (slice given) })) (sym f) p in
+      let g = some (slice back.slice) in
+      let replied = subst (λ (x : Reply). Answered c s l (record { reply = x; memory = memory.now; shown = g })) (sym f) p in
       record {
         loan = l;
-        given = some (slice given);
-        answered = subst (λ (n : List ℕ). Answered c s l (record { reply = r; memory = n; shown = some (slice given) })) held replied;
+        given = g;
+        answered = subst (λ (n : List ℕ). Answered c s l (record { reply = r; memory = n; shown = g })) held replied;
         lent = held;
         text = e;
         shown_is = refl;
@@ -95,6 +96,5 @@ module _ {s : State} {m : List ℕ} {r : Reply} where
   promised (put κ n memory e p) = reads memory refl e p
   promised (begin_reading κ n memory e p) = reads memory refl e p
   promised (close κ n memory e p) = reads memory refl e p
-  promised (showing κ n memory given refused mark number told e p f) = shows memory given (anywhere []) (answer_of mark.now told.now) refl e f (p (anywhere []))
-  promised (screen κ n memory standby given refused mark number told e p f) =
-      shows memory given (slice standby) (answer_of mark.now told.now) refl e f p
+  promised (showing κ n memory back e p f) = shows memory back (anywhere []) refl e f (p (anywhere []))
+  promised (screen κ n memory standby back e p f) = shows memory back (slice standby) refl e f p

@@ -1,5 +1,5 @@
 -- The public functions, each by its own contract as it stands in its crate. Assumes nothing.
-use Rattle.std.specs.Prelude.{◌≡◌, Bool, List, ℕ, ℤ}
+use Rattle.std.specs.Prelude.{◌≡◌, List, ℕ}
 use Rattle.std.proofs.Math.Option.{Option, none, some}
 use Rattle.std.specs.Borrow.{Bor, MutBor}
 use contract.Lifetimes.{Lfts}
@@ -10,7 +10,8 @@ use Rattle.kernel.specs.declared.SemaphoreNo.{SemaphoreNo}
 use Rattle.kernel.specs.declared.ChannelNo.{ChannelNo}
 use Rattle.kernel.specs.Calls as Calls
 use Rattle.kernel.specs.Calls.{Call, verb, question, on_channel}
-use Rattle.kernel.specs.Promise.{answer_of, reply}
+use Rattle.kernel.specs.Promise.{reply}
+use Rattle.reading.specs.declared.HandedBack.{HandedBack}
 use Rattle.ticks.proofs.tick.Reads.{Post as Tick}
 use Rattle.creation.proofs.create_hard.Reads.{Post as CreateHard}
 use Rattle.creation.proofs.create_nrt.Reads.{Post as CreateNrt}
@@ -68,10 +69,9 @@ pub data Made (s : State) (m : List ℕ) (r : Reply) : Call → (left : List ℕ
       → Made s m r (on_channel (Calls.begin_reading n.0)) m none
   close : (κ : Lfts 1) (n : ChannelNo) (memory : Bor (List ℕ)) → memory.now ≡ m → Close κ (s, (n, (memory, tt))) r (s, (n, (memory, tt)))
       → Made s m r (on_channel (Calls.close n.0)) m none
-  -- These two hand back a slice, and the answer through references; the state stays.
-  showing : (κ : Lfts 3) (n : ChannelNo) (memory given : Bor (List ℕ)) (refused mark : MutBor Bool) (number told : MutBor ℤ) → memory.now ≡ m
-      → Showing κ (s, (n, (memory, (refused, (number, tt))))) given (s, (n, (memory, (mark, (told, tt))))) → r ≡ reply s.words (answer_of mark.now told.now)
-      → Made s m r (on_channel (Calls.showing n.0)) m (some given.now)
-  screen : (κ : Lfts 3) (n : ChannelNo) (memory standby given : Bor (List ℕ)) (refused mark : MutBor Bool) (number told : MutBor ℤ) → memory.now ≡ m
-      → Screen κ (s, (n, (memory, (standby, (refused, (number, tt)))))) given (s, (n, (memory, (standby, (mark, (told, tt))))))
-      → r ≡ reply s.words (answer_of mark.now told.now) → Made s m r (on_channel (Calls.screen n.0 standby.now)) m (some given.now)
+  -- These two hand back a slice, and beside it the answer; the state stays.
+  showing : (κ : Lfts 1) (n : ChannelNo) (memory : Bor (List ℕ)) (back : HandedBack) → memory.now ≡ m → Showing κ (s, (n, (memory, tt))) back (s, (n, (memory, tt)))
+      → r ≡ reply s.words back.answer → Made s m r (on_channel (Calls.showing n.0)) m (some back.slice.now)
+  screen : (κ : Lfts 1) (n : ChannelNo) (memory standby : Bor (List ℕ)) (back : HandedBack) → memory.now ≡ m
+      → Screen κ (s, (n, (memory, (standby, tt)))) back (s, (n, (memory, (standby, tt))))
+      → r ≡ reply s.words back.answer → Made s m r (on_channel (Calls.screen n.0 standby.now)) m (some back.slice.now)

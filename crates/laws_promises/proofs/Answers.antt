@@ -6,18 +6,18 @@ use mathlib.Core.List.{List, []}
 use mathlib.Core.Option.{Option, none, some}
 use Prim.Native.Nat.{ℕ}
 use lib.IntN.{ℤ}
-use Rattle.kernel.specs.declared.Answer.{Answer}
+use Rattle.std.specs.Prelude.{Err}
 use Rattle.kernel.specs.declared.State.{State}
 use Rattle.kernel.specs.declared.Reply.{Reply}
-use Rattle.kernel.specs.Answer.{Said, refused, said}
+use Rattle.kernel.specs.Answer.{Answer, Said, refused, said}
 use Rattle.kernel.specs.Calls.{Call, effect}
-use Rattle.kernel.specs.Refusals.{first, table, rows}
+use Rattle.kernel.specs.Refusals.{Handed, first, table, rows}
 use Rattle.kernel.specs.Step.{by_table, step}
 use Rattle.kernel.specs.Seen.{seen}
 use Rattle.kernel.specs.Good.{Good}
 use Rattle.kernel.specs.Sound.{Sound}
 use Rattle.kernel.specs.Promise.{handed, runs, Loan, Given, Gives, Answered, Unlent, Known, UnlentKnown}
-use Rattle.kernel.proofs.Said.{same_answer, done_refused}
+use Rattle.kernel.proofs.Said.{refusal_of, same_answer, done_refused}
 use Rattle.kernel.proofs.Refusals.{Each, listed}
 use Rattle.kernel.proofs.Rows.{not_none, number_or}
 use Rattle.kernel.proofs.Decided.{yes as truly}
@@ -41,6 +41,12 @@ By c s l g b o = Gives (by_table o (effect c (seen s.words) l.memory.bytes) (han
 -- What the table says.
 abbrev pub says : Call → State → Loan → Bool → Option ℤ
 says c s l b = first (rows c (handed b s.words l.memory.bytes))
+
+-- Each number that it says is that of a refusal.
+pub has_number : (c : Call) (h : Handed) {x : ℤ} → first (rows c h) ≡ some x → said (Err (refusal_of x)) ≡ refused x
+has_number c h =
+    listed (λ x. said (Err (refusal_of x)) ≡ refused x) c h
+    (refl, (refl, (refl, (refl, (refl, (refl, (refl, (refl, (refl, (refl, (refl, (refl, (refl, (refl, (refl, tt)))))))))))))))
 
 -- Where no row applies, the state is sound, and the next kernel is good.
 pub next_good : (c : Call) (s : State) (l : Loan) (b : Bool) → (b ≡ true) ↔ Sound s.words → says c s l b ≡ none → Good (effect c (seen s.words) l.memory.bytes).kernel

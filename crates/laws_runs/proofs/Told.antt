@@ -6,7 +6,7 @@ use mathlib.Core.Logic.{inl, inr}
 use Prim.Native.Nat.{ℕ, ◌<◌}
 use native.Mathlib.Omega.{arith}
 use borrow.Author.Tests.{ne_eqb}
-use Rattle.std.specs.declared.option.Option.{Option}
+use Rattle.std.specs.declared.option.Option.{Option as Latest}
 use Rattle.std.specs.Prelude.{None, Some}
 use Rattle.kernel.specs.declared.Session.{Session}
 use Rattle.kernel.specs.declared.Session.TheVariants.{Closed, Write, Reading}
@@ -26,7 +26,7 @@ kind (Write b) = a_write
 kind (Reading b) = a_reading
 
 -- The message in the latest buffer, where `bytes_in` says what bytes a buffer has.
-abbrev pub message_in : Option ℕ → (ℕ → List ℕ) → Option (List ℕ)
+abbrev pub message_in : Latest ℕ → (ℕ → List ℕ) → Option (List ℕ)
 message_in None bytes_in = none
 message_in (Some b) bytes_in = some (bytes_in b)
 
@@ -82,7 +82,7 @@ carries_still n h bytes_in bytes_in' t Closed same e = tt
 carries_still n h bytes_in bytes_in' t (Write b) same e = e ∙ sym (same b (inl refl))
 carries_still n h bytes_in bytes_in' t (Reading b) same e = e ∙ ap some (sym (same b (inr refl)))
 
-pub message_still : {bytes_in bytes_in' : ℕ → List ℕ} (x : Option ℕ) → ((b : ℕ) → x ≡ Some b → bytes_in' b ≡ bytes_in b) → message_in x bytes_in ≡ message_in x bytes_in'
+pub message_still : {bytes_in bytes_in' : ℕ → List ℕ} (x : Latest ℕ) → ((b : ℕ) → x ≡ Some b → bytes_in' b ≡ bytes_in b) → message_in x bytes_in ≡ message_in x bytes_in'
 message_still None same = refl
 message_still (Some b) same = ap some (sym (same b refl))
 

@@ -1,7 +1,6 @@
 -- Kernels that cheat on channels, each the honest one but for what some calls do, and for each a run that gives it away. Assumes nothing.
-use Rattle.std.specs.Prelude.{cond, not, ◌&&◌, List, [], ◌∷◌, ◌++◌, ℕ, replicate}
+use Rattle.std.specs.Prelude.{cond, not, ◌&&◌, List, [], ◌∷◌, ◌++◌, ℕ, replicate, Some}
 use Rattle.std.proofs.Math.Option.{Option, none, some}
-use Rattle.std.specs.Prelude.{Some}
 use Rattle.kernel.specs.declared.Session.TheVariants.{Write}
 use Rattle.kernel.specs.Sizes.{task_count, memory_size}
 use Rattle.kernel.specs.Kernel.{Kernel, channel, lowest, with_channel}
