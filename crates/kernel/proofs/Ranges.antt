@@ -50,9 +50,10 @@ module _ (a n : ℕ) (P : ℕ → Type 0) where
 
 module _ {F : Type 0} {f : F} {u : Range ℕ} where
   -- `all`, where the closure decides P of each number.
-  module _ {g : Mut F (ℕ × Unit {0}) Bool} {P : ℕ → Type 0} {a n : ℕ} {r : Bool} (tells : (x : ℕ) (b : Bool) (q : F) → Called g f (x, tt) b q → (q ≡ f) × (a ≤ x → x < n → (b ≡ true) ↔ P x)) where
-    pub all_in : ChecksAll nat_range_steps g (record { start = a; end = n }) f r u → (r ≡ true) ↔ ((x : ℕ) → a ≤ x → x < n → P x)
-    all_in ran =
+  module _ {g : Mut F (ℕ × Unit {0}) Bool} {P : ℕ → Type 0} {a n : ℕ} {r : Bool} where
+    pub all_in : ChecksAll nat_range_steps g (record { start = a; end = n }) f r u → ((x : ℕ) (b : Bool) (q : F) → Called g f (x, tt) b q → (q ≡ f) × (a ≤ x → x < n → (b ≡ true) ↔ P x))
+        → (r ≡ true) ↔ ((x : ℕ) → a ≤ x → x < n → P x)
+    all_in ran tells =
         go r
         (cases_from_all u f r (Inside a n P) (Inside a n (λ x. P x → ⊥)) ran (YieldsList-from_range a n (n - a) refl refl) (λ x q k. let t = tells x true q k in (t.0, λ m l. (t.1 m l).0 refl))
         (λ x q k m l p. false≢true (((tells x false q k).1 m l).1 p)))
@@ -65,7 +66,7 @@ module _ {F : Type 0} {f : F} {u : Range ℕ} where
   module _ {g : Mut F (ℕ × Unit {0}) Bool} {P : ℕ → Type 0} {n : ℕ} {r : Bool} where
     pub all_below : ChecksAll nat_range_steps g (record { start = 0; end = n }) f r u → ((x : ℕ) (b : Bool) (q : F) → Called g f (x, tt) b q → (q ≡ f) × (x < n → (b ≡ true) ↔ P x))
         → (r ≡ true) ↔ ((x : ℕ) → x < n → P x)
-    all_below ran tells = means (all_in (λ x b q k. let t = tells x b q k in (t.0, λ m. t.1)) ran) (λ all x. all x (omega arith)) (λ all x m. all x)
+    all_below ran tells = means (all_in ran (λ x b q k. let t = tells x b q k in (t.0, λ m. t.1))) (λ all x. all x (omega arith)) (λ all x m. all x)
 
   -- `any`, likewise: the number of which it does, or that it does of none.
   module _ {g : Mut F (ℕ × Unit {0}) Bool} {P : ℕ → Type 0} {n : ℕ} {r : Bool} where
