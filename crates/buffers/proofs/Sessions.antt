@@ -1,18 +1,16 @@
 -- Whether one of the tasks has a session that holds a buffer, sought from the first on. Assumes nothing.
-use mathlib.Core.Path.{◌≡◌, refl, ap, sym, ◌∙◌}
+use mathlib.Core.Path.{◌≡◌, refl, sym, ◌∙◌}
 use mathlib.Core.Bool.{Bool, true, false, ◌||◌, or-true}
 use mathlib.Core.List.{List}
-use Prim.Native.Nat.{ℕ, zero, suc, ◌+◌, ◌≤◌, ◌<◌}
+use Prim.Native.Nat.{ℕ, zero, suc, ◌<◌}
 use native.Mathlib.Omega.{arith}
-use native.Mathlib.Numerals.{add-one}
 use native.Mathlib.Decide.{dec_lt}
-use borrow.Author.Rules.{rules}
+use Rattle.std.specs.Bool.{MatchBool}
 use Rattle.kernel.specs.declared.Session.{Session}
-use Rattle.kernel.specs.Sizes.{task_count, channel_count}
-use Rattle.kernel.specs.Kernel.{Kernel, session, slot_number}
+use Rattle.kernel.specs.Sizes.{task_count}
+use Rattle.kernel.specs.Kernel.{Kernel, session}
 use Rattle.kernel.specs.Channels.{reads, writes, some_session}
-use Rattle.kernel.specs.Seen.{slot_in, seen}
-use Rattle.words.proofs.Seen.{session_seen}
+use Rattle.kernel.specs.Seen.{seen}
 
 abbrev holds : ℕ → Session → Bool
 holds b z = reads b z || writes b z
@@ -39,30 +37,17 @@ either (suc n) p q k c = rw (either n p q k c) (regroup (p (session k c n)) (q (
     regroup false true false y = refl
     regroup false false x y = refl
 
--- Buffer b of channel c is held by none of the first t tasks.
-pub record NoneYet (w : List ℕ) (c b t : ℕ) : Type 0 where
-  pub within : t ≤ task_count
-  pub none : some_session (holds b) t (seen w) c ≡ false
+-- None that has is too few.
+none : (p : Session → Bool) (k : Kernel) (c n : ℕ) → ((t : ℕ) → t < n → p (session k c t) ≡ true → ⊥) → some_session p n k c ≡ false
+unfolding some_session
+none p k c zero not = refl
+none p k c (suc n) not = go (p (session k c n)) refl (none p k c n (λ t l. not t (omega arith)))
+  where
+    go : (b : Bool) → p (session k c n) ≡ b → some_session p n k c ≡ false → b || some_session p n k c ≡ false
+    go true e ih = absurd (not n (omega arith) e)
+    go false e ih = ih
 
-module _ {w : List ℕ} {c b : ℕ} where
-  pub begins : NoneYet w c b 0
-  unfolding some_session
-  begins = record { within = omega arith; none = refl }
-
-  module _ {t : ℕ} (so_far : NoneYet w c b t) where
-    pub ends : task_count ≤ t → false ≡ some_session (reads b) task_count (seen w) c || some_session (writes b) task_count (seen w) c
-    ends l = let all : t ≡ task_count = omega (arith, so_far.within) in sym (rw all at so_far.none) ∙ either task_count (reads b) (writes b) (seen w) c
-
-    -- The session that is tested is that of task t.
-    module _ {z : Session} {h : Bool} (lc : c < channel_count) (l : t < task_count) (is : z ≡ (slot_in w (slot_number c t)).session) (test : h ≡ holds b z) where
-      tested : holds b (session (seen w) c t) ≡ h
-      tested = ap (holds b) (session_seen w c t lc l ∙ sym is) ∙ sym test
-
-      pub goes_on : h ≡ false → NoneYet w c b (t + 1)
-      unfolding some_session
-      goes_on e = record { within = omega arith; none = rw (add-one t, tested, e) so_far.none }
-
-      pub stops : h ≡ true → true ≡ some_session (reads b) task_count (seen w) c || some_session (writes b) task_count (seen w) c
-      stops e = sym (found (holds b) (seen w) c t (tested ∙ e) task_count l) ∙ either task_count (reads b) (writes b) (seen w) c
-
-pub ruleset sought = (rules, begins, ends, goes_on, stops)
+pub some_holds : (w : List ℕ) (c b : ℕ) (r : Bool) → MatchBool r ((t : ℕ) × (t < task_count) × (holds b (session (seen w) c t) ≡ true)) ((t : ℕ) → t < task_count → holds b (session (seen w) c t) ≡ true → ⊥)
+    → r ≡ some_session (reads b) task_count (seen w) c || some_session (writes b) task_count (seen w) c
+some_holds w c b true h = sym (found (holds b) (seen w) c h.0 h.2 task_count h.1) ∙ either task_count (reads b) (writes b) (seen w) c
+some_holds w c b false h = sym (none (holds b) (seen w) c task_count h) ∙ either task_count (reads b) (writes b) (seen w) c

@@ -26,15 +26,9 @@ pub fn no_channel(w: &[u32; State::WORDS], c: usize) -> bool
 pub fn lowest_channel(w: &[u32; State::WORDS]) -> usize
     ensures { result ≡ lowest_channel (seen w.now) }
 {
-    let mut c: usize = 0;
-    while c < State::CHANNELS {
-        let channel = words::channel(w, c);
-        if channel.size == 0 {
-            return c;
-        }
-        c += 1;
-    }
-    c
+    (0..State::CHANNELS)
+        .find(|c| words::channel(w, *c).size == 0)
+        .unwrap_or(State::CHANNELS)
 }
 
 // ---- sessions
@@ -100,15 +94,7 @@ fn in_session(w: &[u32; State::WORDS], c: usize, b: u32) -> bool
     requires { c < channel_count }
     ensures { result ≡ some_session (reads b) task_count (seen w.now) c || some_session (writes b) task_count (seen w.now) c }
 {
-    let mut t: usize = 0;
-    while t < State::TASKS {
-        let session = words::session(w, State::TASKS * c + t);
-        if holds(session, b) {
-            return true;
-        }
-        t += 1;
-    }
-    false
+    (0..State::TASKS).any(|t| holds(words::session(w, State::TASKS * c + t), b))
 }
 
 // Whether buffer b of channel c is not latest, not read and not being written.
@@ -131,13 +117,8 @@ pub fn lowest_buffer(w: &[u32; State::WORDS], c: usize) -> u32
     if c >= State::CHANNELS {
         return 0;
     }
-    let channel = words::channel(w, c);
-    let mut b: u32 = 0;
-    while b < channel.buffers {
-        if free_buffer(w, c, b) {
-            return b;
-        }
-        b += 1;
-    }
-    b
+    let buffers = words::channel(w, c).buffers;
+    (0..buffers)
+        .find(|b| free_buffer(w, c, *b))
+        .unwrap_or(buffers)
 }

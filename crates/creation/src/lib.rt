@@ -22,14 +22,9 @@ use kernel::{Answer, Class, Refusal, Reply, State, Status};
 fn lowest_free(w: &[u32; State::WORDS]) -> usize
     ensures { result ≡ Tasks.lowest_free (seen w.now) }
 {
-    let mut i: usize = 0;
-    while i < State::TASKS {
-        if refusals::status_of(w, i) == Status::Free {
-            return i;
-        }
-        i += 1;
-    }
-    i
+    (0..State::TASKS)
+        .find(|i| refusals::status_of(w, *i) == Status::Free)
+        .unwrap_or(State::TASKS)
 }
 
 // The deadline of a new task: the clock, or as its priority says.

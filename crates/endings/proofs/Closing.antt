@@ -1,7 +1,7 @@
 -- Sessions of a task that are closed, channel by channel. Assumes nothing.
-use mathlib.Core.Path.{◌≡◌, subst}
+use mathlib.Core.Path.{◌≡◌}
 use mathlib.Core.List.{List}
-use Prim.Native.Nat.{ℕ, ◌+◌, ◌≤◌, ◌<◌}
+use Prim.Native.Nat.{ℕ, ◌+◌, ◌<◌}
 use native.Mathlib.Numerals.{add-one}
 use native.Mathlib.Omega.{arith}
 use lib.ListN.{set}
@@ -18,25 +18,18 @@ use Rattle.words.proofs.Entries.{session_set}
 
 -- The words v are w with the sessions of task n closed on the first c channels.
 pub record Closing (w : List ℕ) (n c : ℕ) (v : List ℕ) : Type 0 where
-  pub within : c ≤ channel_count
   pub shows : Shows v (with_sessions (seen w) (close_sessions c n (seen w).sessions))
 
 pub begins : {w : List ℕ} (n : ℕ) → Kept w → Closing w n 0 w
 unfolding close_sessions
-begins n k = record { within = omega arith; shows = itself k }
+begins n k = record { shows = itself k }
 
-module _ {w : List ℕ} {n c : ℕ} {v : List ℕ} (h : Closing w n c v) where
-  -- One channel more.
-  pub more : n < task_count → c < channel_count → Closing w n (c + 1) (set v (session_at (slot_number c n)) (session_code Closed))
-  unfolding close_sessions
-  more ln lc =
-      record {
-        within = omega arith;
-        shows = rw add-one
-            (then (λ (k : Kernel). with_sessions k (set k.sessions (slot_number c n) (slot Closed))) h.shows
-            (session_set (slot_number c n) Closed (omega arith) (λ b e. let z : ◌≡◌ {A = ℕ} 0 1 = cc in omega arith) h.shows.kept));
-      }
-
-  -- On all of them.
-  pub ends : channel_count ≤ c → Shows v (with_sessions (seen w) (close_sessions channel_count n (seen w).sessions))
-  ends l = subst (λ (m : ℕ). Shows v (with_sessions (seen w) (close_sessions m n (seen w).sessions))) (omega (arith, h.within)) h.shows
+-- One channel more.
+pub more : {w : List ℕ} {n c : ℕ} {v : List ℕ} → Closing w n c v → n < task_count → c < channel_count → Closing w n (c + 1) (set v (session_at (slot_number c n)) (session_code Closed))
+unfolding close_sessions
+more {n = n} {c = c} h ln lc =
+    record {
+      shows = rw add-one
+          (then (λ (k : Kernel). with_sessions k (set k.sessions (slot_number c n) (slot Closed))) h.shows
+          (session_set (slot_number c n) Closed (omega arith) (λ b e. let z : ◌≡◌ {A = ℕ} 0 1 = cc in omega arith) h.shows.kept));
+    }

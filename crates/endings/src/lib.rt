@@ -17,15 +17,14 @@ ghost use Rattle.refusals.specs.Tested.{Verdict, Legal};
 use kernel::{Answer, Class, Refusal, Reply, Session, State, Status, TaskNo};
 
 // The sessions of task n are closed, unput.
+#[tactic(auto, using(crate::proofs::Closing::begins, crate::proofs::Closing::more))]
 fn close_sessions(w: &mut [u32; State::WORDS], n: usize)
     requires kept { Kept w.old }
     requires is_task { n < task_count }
     ensures { Shows w.new (with_sessions (seen w.old) (Tasks.close_sessions channel_count n (seen w.old).sessions)) }
 {
-    let mut c: usize = 0;
-    while c < State::CHANNELS {
+    for c in 0..State::CHANNELS {
         words::set_session(w, State::TASKS * c + n, Session::Closed);
-        c += 1;
     }
 }
 

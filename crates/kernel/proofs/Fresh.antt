@@ -1,11 +1,11 @@
--- The fresh kernel is good, at any clock before lifetime; how its words are written. Assumes nothing.
-use mathlib.Core.Path.{◌≡◌, refl, ap, ◌∙◌}
+-- The fresh kernel is good, at any clock before lifetime. Assumes nothing.
+use mathlib.Core.Path.{◌≡◌, refl, ap}
 use mathlib.Core.Logic.{inl, inr}
 use mathlib.Core.Bool.{false≢true}
-use mathlib.Core.List.{List, []}
-use Prim.Native.Nat.{ℕ, zero, suc, ◌+◌, ◌-◌, ◌*◌, ◌<◌}
+use mathlib.Core.List.{[]}
+use Prim.Native.Nat.{ℕ, zero, suc, ◌-◌, ◌*◌, ◌<◌}
 use native.Mathlib.Omega.{arith}
-use lib.ListN.{get_or, set, replicate}
+use lib.ListN.{get_or, replicate}
 use Rattle.laws_chain.specs.Filing.{Queue}
 use Rattle.kernel.specs.declared.Channel.{Channel}
 use Rattle.std.specs.Prelude.{Some}
@@ -15,8 +15,7 @@ use Rattle.kernel.specs.Sizes.{task_count, semaphore_count, channel_count, lifet
 use Rattle.kernel.specs.Status.{queue_of, queue_count}
 use Rattle.kernel.specs.Kernel.{Bare, blank, task, queue, semaphore, channel, session, unused_semaphore, unused_channel, slot, slot_number}
 use Rattle.kernel.specs.Good.{Good, GoodTask, GoodSemaphore, GoodChannel, Opens, standing, deadline_of}
-use Rattle.kernel.specs.Codes.{none}
-use Rattle.kernel.specs.Fresh.{main, fresh, fresh_at, with_none}
+use Rattle.kernel.specs.Fresh.{main, fresh, fresh_at}
 
 -- A list of one thing holds it at each number, past its end too where that is what is read there.
 everywhere : {A : Type 0} (n : ℕ) (a : A) (i : ℕ) → get_or (replicate n a) i a ≡ a
@@ -141,14 +140,3 @@ module _ (n : ℕ) where
 pub fresh_good : Good fresh
 unfolding fresh
 fresh_good = fresh_at_good 0 (omega arith)
-
--- ---- the words, one -1 more
-
-module _ (w : List ℕ) (from step : ℕ) where
-  pub none_yet : w ≡ with_none w from step 0
-  unfolding with_none
-  none_yet = refl
-
-  pub one_more : (v : List ℕ) (n : ℕ) → v ≡ with_none w from step n → set v (from + step * n) none ≡ with_none w from step (n + 1)
-  unfolding with_none
-  one_more v n e = let z : suc n ≡ n + 1 = omega arith in ap (λ (u : List ℕ). set u (from + step * n) none) e ∙ ap (with_none w from step) z

@@ -13,6 +13,7 @@ pub mod Fresh
 pub mod Deadlines
 pub mod Shares
 pub mod Lowest
+pub mod Ranges
 pub mod Places
 pub mod Stored
 pub mod Over

@@ -221,15 +221,14 @@ impl Channel {
 }
 
 // -1 in so many words: the first at `from`, and each `step` behind the one before.
+#[tactic(auto, unfolding(crate::specs::Fresh::with_none))]
 fn none_at(w: &mut [u32; State::WORDS], from: usize, step: usize, count: usize)
     requires step_some { 1 ≤ step }
     requires inside { from + step * count ≤ word_count }
     ensures { w.new ≡ with_none w.old from step count }
 {
-    let mut i: usize = 0;
-    while i < count {
+    for i in 0..count {
         w[from + step * i] = State::NONE;
-        i += 1;
     }
 }
 

@@ -27,24 +27,13 @@ pub fn write(memory: &mut [u8], a: usize, bytes: &[u8])
     memory[a..end].copy_from_slice(bytes);
 }
 
-// Every byte becomes 0.
-fn zero(bytes: &mut [u8])
-    ensures { bytes.new ≡ replicate (length bytes.old) 0 }
-{
-    let mut i = 0;
-    while i < bytes.len() {
-        bytes[i] = 0;
-        i += 1;
-    }
-}
-
 // n bytes from a on become 0.
 pub fn clear(memory: &mut [u8], a: usize, n: usize)
     requires { a + n ≤ length memory.old }
     ensures { memory.new ≡ over memory.old a (replicate n 0) }
 {
     let end = a + n;
-    zero(&mut memory[a..end]);
+    memory[a..end].fill(0);
 }
 
 // So many bytes from a on, uncopied.

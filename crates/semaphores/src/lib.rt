@@ -43,15 +43,9 @@ fn count_of(w: &[u32; State::WORDS], n: usize) -> u32
 fn lowest(w: &[u32; State::WORDS]) -> usize
     ensures { result ≡ lowest_semaphore (seen w.now) }
 {
-    let mut n: usize = 0;
-    while n < State::SEMAPHORES {
-        let found = no_semaphore(w, n);
-        if found {
-            return n;
-        }
-        n += 1;
-    }
-    n
+    (0..State::SEMAPHORES)
+        .find(|n| no_semaphore(w, *n))
+        .unwrap_or(State::SEMAPHORES)
 }
 
 // ---- new semaphore

@@ -2,5 +2,4 @@
 pub mod Classes
 pub mod Tasks
 pub mod Clock
-pub mod Waiters
 pub mod Sum

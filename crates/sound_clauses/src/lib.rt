@@ -174,14 +174,7 @@ fn task_good(w: &[u32; State::WORDS], x: usize) -> bool
 pub fn tasks_good(w: &[u32; State::WORDS]) -> bool
     ensures { (result ≡ true) ↔ ((x : ℕ) → x < task_count → GoodTask (seen w.now) x (task (seen w.now) x)) }
 {
-    let mut x: usize = 0;
-    while x < State::TASKS {
-        if !task_good(w, x) {
-            return false;
-        }
-        x += 1;
-    }
-    true
+    (0..State::TASKS).all(|x| task_good(w, x))
 }
 
 // Whether deadline d is no later than the first ready one's.
@@ -265,12 +258,10 @@ pub fn shares_good(w: &[u32; State::WORDS]) -> bool
     ensures { (result ≡ true) ↔ Shared (seen w.now) }
 {
     let mut total: u64 = 0;
-    let mut x: usize = 0;
-    while x < State::TASKS {
+    for x in 0..State::TASKS {
         let class = words::class(w, x);
         let status = words::status(w, x);
         total += counted_share(class, status);
-        x += 1;
     }
     let share = words::total(w);
     if share as u64 != total {
@@ -298,20 +289,21 @@ pub fn semaphore_good(a: Semaphore, first: usize) -> bool
     a.count == 0
 }
 
-// Whether every semaphore is good.
+// Whether semaphore s is.
+fn keeps_count(w: &[u32; State::WORDS], s: usize) -> bool
+    requires { s < semaphore_count }
+    ensures { (result ≡ true) ↔ GoodSemaphore (seen w.now) s }
+{
+    let a = words::semaphore(w, s);
+    let first = queues::first(w, State::WAITERS + s);
+    semaphore_good(a, first)
+}
+
+// Whether every semaphore is.
 pub fn semaphores_good(w: &[u32; State::WORDS]) -> bool
     ensures { (result ≡ true) ↔ ((s : ℕ) → s < semaphore_count → GoodSemaphore (seen w.now) s) }
 {
-    let mut s: usize = 0;
-    while s < State::SEMAPHORES {
-        let a = words::semaphore(w, s);
-        let first = queues::first(w, State::WAITERS + s);
-        if !semaphore_good(a, first) {
-            return false;
-        }
-        s += 1;
-    }
-    true
+    (0..State::SEMAPHORES).all(|s| keeps_count(w, s))
 }
 
 // Whether the clock is in its lifetime, and at its end exactly when stopped with -2.

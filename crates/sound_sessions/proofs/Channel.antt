@@ -1,24 +1,22 @@
 -- The code's tests of a channel and of each session on it are the channel's clauses. Assumes nothing.
-use mathlib.Core.Path.{◌≡◌, refl, sym, ◌∙◌}
-use mathlib.Core.Bool.{Bool, true, false}
+use mathlib.Core.Path.{◌≡◌, refl, ap, sym}
+use mathlib.Core.Bool.{Bool, true}
 use mathlib.Core.List.{List}
 use mathlib.Core.Logic.{◌↔◌, ◌⊎◌, inl, inr, ⊎_elim}
-use Prim.Native.Nat.{ℕ, zero-le, ◌+◌, ◌≤◌, ◌<◌}
+use Prim.Native.Nat.{ℕ, zero-le, ◌<◌}
 use native.Mathlib.Nat.{eq-or-lt_of_le}
 use native.Mathlib.Omega.{arith}
-use borrow.Author.Rules.{rules}
 use Rattle.kernel.specs.declared.Channel.{Channel}
 use Rattle.std.specs.declared.option.Option.{Option}
 use Rattle.std.specs.Prelude.{None, Some}
 use Rattle.kernel.specs.declared.Session.{Session}
 use Rattle.kernel.specs.declared.Session.TheVariants.{Closed, Write, Reading}
-use Rattle.kernel.specs.declared.Status.{Status}
 use Rattle.kernel.specs.Sizes.{task_count, channel_count}
 use Rattle.kernel.specs.Status.{status_number}
-use Rattle.kernel.specs.Kernel.{Kernel, task, channel, session, slot_number}
+use Rattle.kernel.specs.Kernel.{Bare, Kernel, channel, session, slot_number}
 use Rattle.kernel.specs.Good.{GoodChannel}
 use Rattle.kernel.specs.Seen.{status_in, slot_in, channel_in, seen}
-use Rattle.kernel.proofs.Decided.{refused, Passing, none_passed, one_passes, one_fails, all_pass}
+use Rattle.kernel.proofs.Decided.{means}
 use Rattle.words.proofs.Seen.{task_seen, channel_seen, session_seen}
 use Rattle.sound_sessions.specs.Channel.{NamesLatest, KeepsChannel}
 use Rattle.sound_sessions.specs.Session.{KeepsSession, Alone, KeptIn}
@@ -103,63 +101,16 @@ module _ (k : Kernel) (c : ℕ) where
         alone = λ b. each_alone task_count (session k c) g.one_writer g.not_read t b l;
       }
 
--- ---- the loop over the sessions on channel c
+-- ---- the tests, of what is read
 
-pub record Sessions (w : List ℕ) (c t : ℕ) (X : Type 0) : Type 0 where
-  pub passing : Passing (KeptIn (seen w) c) task_count t X
+-- Of the session of task t on channel c, which is h.
+pub session_tested : (w : List ℕ) (c t : ℕ) → c < channel_count → t < task_count → {h : Channel} {b : Bool} → h ≡ channel_in w c
+    → (let z = (slot_in w (slot_number c t)).session in (b ≡ true) ↔ (KeepsSession h (status_number (status_in w t)) z × ((a : ℕ) → z ≡ Write a → Alone task_count (session (seen w) c) t a)))
+    → (b ≡ true) ↔ KeptIn (seen w) c t
+session_tested w c t lc lt is d =
+    means (rw (is, ← session_seen w c t lc lt, ← channel_seen w c lc, ← ap (λ (a : Bare). a.status) (task_seen w t lt)) at d) (λ h. record { itself = h.0; alone = h.1 }) (λ g. (g.itself, g.alone))
 
-pub none_kept : {w : List ℕ} {c : ℕ} → Sessions w c 0 ((t : ℕ) → t < task_count → KeptIn (seen w) c t)
-none_kept = record { passing = none_passed }
-
-module _ {w : List ℕ} {c t : ℕ} {X : Type 0} (p : Sessions w c t X) where
-  pub all_kept : task_count ≤ t → (true ≡ true) ↔ X
-  all_kept l = all_pass p.passing l
-
-  -- The channel h, the session z and the status s that are read, and what the test of them decides.
-  module _ {h : Channel} {z : Session} {s : Status} {b : Bool} (lc : c < channel_count) (lt : t < task_count) (is_channel : h ≡ channel_in w c) (is_session : z ≡ (slot_in w (slot_number c t)).session) (is_status : s ≡ status_in w t)
-      (d : (b ≡ true) ↔ KeepsSession h (status_number s) z) where
-    read : session (seen w) c t ≡ z
-    read = session_seen w c t lc lt ∙ sym is_session
-
-    tested : (b ≡ true) ↔ KeepsSession (channel (seen w) c) (status_number (task (seen w) t).status) (session (seen w) c t)
-    tested = rw (channel_seen w c lc, task_seen w t lt, read, ← is_channel, ← is_status) d
-
-    pub wrong : b ≡ false → (false ≡ true) ↔ X
-    wrong e = one_fails p.passing lt (λ f. refused tested e f.itself)
-
-    pub not_alone : {a : ℕ} {b' : Bool} → z ≡ Write a → b' ≡ false → (b' ≡ true) ↔ Alone task_count (session (seen w) c) t a → (false ≡ true) ↔ X
-    not_alone is e d' = one_fails p.passing lt (λ f. refused d' e (f.alone _ (read ∙ is)))
-
-    pub one_kept : b ≡ true → ((a : ℕ) → z ≡ Write a → Alone task_count (session (seen w) c) t a) → Sessions w c (t + 1) X
-    one_kept e alone = record { passing = one_passes p.passing (record { itself = tested.0 e; alone = λ a is. alone a (sym read ∙ is) }) }
-
-pub ruleset sessions = (rules, none_kept, all_kept, wrong, not_alone)
-
--- ---- the loop over the channels
-
-pub record Channels (w : List ℕ) (c : ℕ) (X : Type 0) : Type 0 where
-  pub passing : Passing (GoodChannel (seen w)) channel_count c X
-
-pub none_good : {w : List ℕ} → Channels w 0 ((c : ℕ) → c < channel_count → GoodChannel (seen w) c)
-none_good = record { passing = none_passed }
-
-module _ {w : List ℕ} {c : ℕ} {X : Type 0} (p : Channels w c X) where
-  pub all_good : channel_count ≤ c → (true ≡ true) ↔ X
-  all_good l = all_pass p.passing l
-
-  -- The channel h that is read, and what the tests of it and of its sessions decide.
-  module _ {h : Channel} {b : Bool} (l : c < channel_count) (is : h ≡ channel_in w c) (d : (b ≡ true) ↔ KeepsChannel h) where
-    record_tested : (b ≡ true) ↔ KeepsChannel (channel (seen w) c)
-    record_tested = rw (channel_seen w c l, ← is) d
-
-    pub record_wrong : b ≡ false → (false ≡ true) ↔ X
-    record_wrong e = one_fails p.passing l (λ f. refused record_tested e (channel_kept _ c f))
-
-    module _ {b' : Bool} (d' : (b' ≡ true) ↔ ((t : ℕ) → t < task_count → KeptIn (seen w) c t)) where
-      pub sessions_wrong : b' ≡ false → (false ≡ true) ↔ X
-      sessions_wrong e = one_fails p.passing l (λ f. refused d' e (sessions_kept _ c f))
-
-      pub one_good : b ≡ true → b' ≡ true → Channels w (c + 1) X
-      one_good e e' = record { passing = one_passes p.passing (good_channel _ c (record_tested.0 e) (d'.0 e')) }
-
-pub ruleset channels = (rules, none_good, all_good, record_wrong, sessions_wrong, one_good)
+-- Of channel c and of all sessions on it.
+pub channel_tested : (w : List ℕ) (c : ℕ) → c < channel_count → {b : Bool} → (b ≡ true) ↔ (KeepsChannel (channel_in w c) × ((t : ℕ) → t < task_count → KeptIn (seen w) c t))
+    → (b ≡ true) ↔ GoodChannel (seen w) c
+channel_tested w c l d = means (rw (← channel_seen w c l) at d) (λ h. good_channel _ c h.0 h.1) (λ g. (channel_kept _ c g, sessions_kept _ c g))

@@ -115,17 +115,7 @@ fn alone(w: &[u32; State::WORDS], c: usize, t: usize, b: u32) -> bool
     requires { c < channel_count }
     ensures { (result ≡ true) ↔ Alone task_count (session (seen w.now) c) t b }
 {
-    let mut u: usize = 0;
-    while u < State::TASKS {
-        let session = words::session(w, State::TASKS * c + u);
-        if u != t {
-            if names(session, b) {
-                return false;
-            }
-        }
-        u += 1;
-    }
-    true
+    (0..State::TASKS).all(|u| u == t || !names(words::session(w, State::TASKS * c + u), b))
 }
 
 // Whether the session of every task on channel c keeps the rules. Readers may share a buffer, so only a writer must be alone.
@@ -134,37 +124,20 @@ fn keeps_sessions(w: &[u32; State::WORDS], c: usize) -> bool
     ensures { (result ≡ true) ↔ ((t : ℕ) → t < task_count → KeptIn (seen w.now) c t) }
 {
     let channel = words::channel(w, c);
-    let mut t: usize = 0;
-    while t < State::TASKS {
+    (0..State::TASKS).all(|t| {
         let session = words::session(w, State::TASKS * c + t);
-        let status = words::status(w, t);
-        if !keeps_session(session, status, channel) {
-            return false;
-        }
         if let Session::Write(b) = session {
             if !alone(w, c, t, b) {
                 return false;
             }
         }
-        t += 1;
-    }
-    true
+        keeps_session(session, words::status(w, t), channel)
+    })
 }
 
 // Whether every channel and every session on it keeps the rules.
 pub fn channels_good(w: &[u32; State::WORDS]) -> bool
     ensures { (result ≡ true) ↔ ((c : ℕ) → c < channel_count → GoodChannel (seen w.now) c) }
 {
-    let mut c: usize = 0;
-    while c < State::CHANNELS {
-        let channel = words::channel(w, c);
-        if !keeps_channel(channel) {
-            return false;
-        }
-        if !keeps_sessions(w, c) {
-            return false;
-        }
-        c += 1;
-    }
-    true
+    (0..State::CHANNELS).all(|c| keeps_channel(words::channel(w, c)) && keeps_sessions(w, c))
 }

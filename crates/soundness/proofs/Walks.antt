@@ -3,7 +3,7 @@ use mathlib.Core.Path.{◌≡◌, ap, sym, ◌∙◌}
 use mathlib.Core.Bool.{true, false}
 use mathlib.Core.Logic.{◌↔◌, inl, inr, ⊎_elim}
 use mathlib.Core.List.{List, [], ◌∷◌}
-use Prim.Native.Nat.{ℕ, ◌-◌, ◌≤◌, ◌<◌}
+use Prim.Native.Nat.{ℕ, ◌+◌, ◌-◌, ◌≤◌, ◌<◌}
 use native.Mathlib.Omega.{arith}
 use lib.ListN.{length}
 use lib.Dec.{eqb}
@@ -26,43 +26,44 @@ use Rattle.soundness.specs.Tests.{Sorted}
 
 -- ---- is it a chain?
 
--- What the test of the links from the word `now` on says is whether X.
-pub record Testing (w : List ℕ) (most back now : ℕ) (X : Type 0) : Type 0 where
-  pub iff : Untested task_count (next_in w) (previous_in w) most (link back) (link now) ↔ X
+-- After so many links, what the test of those from the word `now` on says is whether X.
+pub record Testing (w : List ℕ) (passed back now : ℕ) (X : Type 0) : Type 0 where
+  pub iff : Untested task_count (next_in w) (previous_in w) (task_count - passed) (link back) (link now) ↔ X
 
 -- From the head that is read.
-pub test_begins : {w : List ℕ} {q h : ℕ} → q < queue_count → h ≡ word w (head_at q) → Testing w task_count none h (Linked w q)
+pub test_begins : {w : List ℕ} {q h : ℕ} → q < queue_count → h ≡ word w (head_at q) → Testing w 0 none h (Linked w q)
 test_begins {w} {q} lq is = let e = queue_seen w q lq in rw is (record { iff = rw link_none ((λ u. record { whole = rw e u }), λ c. rw e at c.whole) })
 
 -- A word is that of -1 where its link is -1.
 ends : {X : Type 0} (now : ℕ) → (link now ≡ link none) ↔ X → (eqb now none ≡ true) ↔ X
 ends now i = means (equal now none) (λ e. i.0 (ap link e)) (λ x. link_once now none (i.1 x))
 
-module _ {w : List ℕ} {most back now : ℕ} {X : Type 0} (t : Testing w most back now X) where
-  pub links_out : most ≤ 0 → (eqb now none ≡ true) ↔ X
-  links_out l = ends now (rw link_none (test_out task_count _ _ most (link back) (link now) l t.iff))
+module _ {w : List ℕ} {passed back now : ℕ} {X : Type 0} (t : Testing w passed back now X) where
+  pub links_out : task_count ≤ passed → (eqb now none ≡ true) ↔ X
+  links_out l = ends now (rw link_none (test_out task_count _ _ (task_count - passed) (link back) (link now) (omega arith) t.iff))
 
   -- The number x of the word, and the word p of the previous link there.
   module _ {x : ℕ} (wide : x ≡ now) where
     pub links_end : task_count ≤ x → (eqb now none ≡ true) ↔ X
-    links_end l = ends now (rw link_none (test_end task_count _ _ most (link back) (link now) (leads_none now (rw wide at l)) t.iff))
+    links_end l = ends now (rw link_none (test_end task_count _ _ (task_count - passed) (link back) (link now) (leads_none now (rw wide at l)) t.iff))
 
-    module _ {p : ℕ} (z : 0 < most) (l : x < task_count) (read : p ≡ word w (field x previous_word)) where
+    module _ {p : ℕ} (z : passed < task_count) (l : x < task_count) (read : p ≡ word w (field x previous_word)) where
       is_task : now < task_count
       is_task = rw wide at l
 
       previous : p ≡ word w (field now previous_word)
       previous = rw wide at read
 
-      pub links_step : {n : ℕ} → p ≡ back → n ≡ word w (field x next_word) → Testing w (most - 1) now n X
+      pub links_step : {n : ℕ} → p ≡ back → n ≡ word w (field x next_word) → Testing w (passed + 1) now n X
       links_step e next =
           let r = leads_some now is_task in
-          rw (next, wide) (record { iff = rw r at (test_step task_count _ _ most (link back) (link now) z (rw r is_task) (rw r (ap link (sym previous ∙ e))) t.iff) })
+          let fewer : task_count - passed - 1 ≡ task_count - (passed + 1) = omega arith in
+          rw (next, wide) (record { iff = rw (r, fewer) at (test_step task_count _ _ (task_count - passed) (link back) (link now) (omega arith) (rw r is_task) (rw r (ap link (sym previous ∙ e))) t.iff) })
 
       pub links_wrong : (p ≡ back → ⊥) → (false ≡ true) ↔ X
       links_wrong ne =
           let r = leads_some now is_task in
-          no (test_not task_count _ _ most (link back) (link now) z (rw r is_task) (rw r (λ e. ne (previous ∙ link_once _ _ e))) t.iff)
+          no (test_not task_count _ _ (task_count - passed) (link back) (link now) (omega arith) (rw r is_task) (rw r (λ e. ne (previous ∙ link_once _ _ e))) t.iff)
 
 -- The needs of that loop.
 pub ruleset testing = (rules, test_begins, links_out, links_end, links_step, links_wrong)

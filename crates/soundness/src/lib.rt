@@ -21,28 +21,14 @@ fn spare(w: &[u32; State::WORDS], x: usize) -> bool
     requires { x < task_count }
     ensures { (result ≡ true) ↔ Spare w.now x }
 {
-    let mut f: usize = Task::SPARE;
-    while f < Task::WORDS {
-        if words::read(w, x, f) != 0 {
-            return false;
-        }
-        f += 1;
-    }
-    true
+    (Task::SPARE..Task::WORDS).all(|f| words::read(w, x, f) == 0)
 }
 
 // Whether those of every task are.
 fn spares(w: &[u32; State::WORDS]) -> bool
     ensures { (result ≡ true) ↔ ((x : ℕ) → x < task_count → Spare w.now x) }
 {
-    let mut x: usize = 0;
-    while x < State::TASKS {
-        if !spare(w, x) {
-            return false;
-        }
-        x += 1;
-    }
-    true
+    (0..State::TASKS).all(|x| spare(w, x))
 }
 
 // Whether the words are in form.
@@ -65,8 +51,7 @@ fn chained(w: &[u32; State::WORDS], q: usize) -> bool
 {
     let mut back = State::NONE;
     let mut at = words::head(w, q);
-    let mut left: usize = State::TASKS;
-    while left > 0 {
+    for _ in 0..State::TASKS {
         let x = words::wide(at);
         if x >= State::TASKS {
             return at == State::NONE;
@@ -77,7 +62,6 @@ fn chained(w: &[u32; State::WORDS], q: usize) -> bool
         }
         back = at;
         at = words::next(w, x);
-        left -= 1;
     }
     at == State::NONE
 }
@@ -135,14 +119,7 @@ fn queue_good(w: &[u32; State::WORDS], q: usize) -> bool
 fn queues_good(w: &[u32; State::WORDS]) -> bool
     ensures { (result ≡ true) ↔ ((q : ℕ) → q < queue_count → GoodQueue w.now q) }
 {
-    let mut q: usize = 0;
-    while q < State::QUEUES {
-        if !queue_good(w, q) {
-            return false;
-        }
-        q += 1;
-    }
-    true
+    (0..State::QUEUES).all(|q| queue_good(w, q))
 }
 
 // ---- tasks
@@ -176,14 +153,7 @@ fn tasks_filed(w: &[u32; State::WORDS]) -> bool
     requires { (q : ℕ) → q < queue_count → GoodQueue w.now q }
     ensures { (result ≡ true) ↔ ((x : ℕ) → x < task_count → FiledTask w.now x) }
 {
-    let mut x: usize = 0;
-    while x < State::TASKS {
-        if !task_filed(w, x) {
-            return false;
-        }
-        x += 1;
-    }
-    true
+    (0..State::TASKS).all(|x| task_filed(w, x))
 }
 
 // ---- all of it

@@ -1,15 +1,11 @@
--- A buffer in a session: none of the tasks passed holds it. Assumes nothing.
-use Rattle.buffers.proofs.Sessions.{sought}
+-- A buffer is in a session where some task's holds it. Assumes nothing.
+use Rattle.std.proofs.Common.{rules, arith}
+use Rattle.kernel.proofs.Ranges.{any_below}
+use Rattle.words.proofs.Seen.{session_seen}
+use Rattle.buffers.proofs.Sessions.{some_holds}
 use Rattle.buffers.proofs.in_session.Goals as goal
 
-pub loop-t-init : goal.loop-t-init
-loop-t-init c = search sought
-
-pub returns-then-holds : goal.returns-then-holds
-returns-then-holds c = search sought
-
-pub loop-t-preserved : goal.loop-t-preserved
-loop-t-preserved c = search sought
-
 pub returns : goal.returns
-returns c = search sought
+returns c =
+    some_holds c.args.w.now c.args.c c.args.b c.any.result
+    (any_below c.any.ensures.ran (λ t b q k. (search rules, λ l. grind (arith, session_seen c.args.w.now c.args.c t c.requires l))))

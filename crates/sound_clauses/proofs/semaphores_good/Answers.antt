@@ -1,9 +1,7 @@
--- Every semaphore is good, one a turn. Assumes nothing.
-use Rattle.sound_clauses.proofs.Waiters.{turn}
+-- Every semaphore is good where each is. Assumes nothing.
+use Rattle.std.proofs.Common.{rules}
+use Rattle.kernel.proofs.Ranges.{all_below}
 use Rattle.sound_clauses.proofs.semaphores_good.Goals as goal
 
-pub returns-then-not-semaphore_good : goal.returns-then-not-semaphore_good
-returns-then-not-semaphore_good c = search turn
-
-pub loop-s-preserved : goal.loop-s-preserved
-loop-s-preserved c = search turn
+pub returns : goal.returns
+returns c = all_below c.all.ensures.ran (λ x b q k. search rules)

@@ -1,12 +1,8 @@
--- Every channel is in order: so far all of those passed are. Assumes nothing.
-use Rattle.sound_sessions.proofs.Channel.{channels}
+-- Every channel is in order where each is. Assumes nothing.
+use Rattle.std.proofs.Common.{rules, arith}
+use Rattle.kernel.proofs.Ranges.{all_below}
+use Rattle.sound_sessions.proofs.Channel.{channel_tested}
 use Rattle.sound_sessions.proofs.channels_good.Goals as goal
 
-pub returns-then-not-keeps_channel : goal.returns-then-not-keeps_channel
-returns-then-not-keeps_channel c = search channels
-
-pub returns-then-not-keeps_sessions : goal.returns-then-not-keeps_sessions
-returns-then-not-keeps_sessions c = search channels
-
-pub loop-c-preserved : goal.loop-c-preserved
-loop-c-preserved c = search channels
+pub returns : goal.returns
+returns c = all_below c.all.ensures.ran (λ x b q k. (search rules, λ l. channel_tested c.args.w.now x l (grind arith)))

@@ -2,8 +2,8 @@
 use Rattle.soundness.proofs.Walks.{testing}
 use Rattle.soundness.proofs.chained.Goals as goal
 
-pub loop-left-init : goal.loop-left-init
-loop-left-init c = search testing
+pub loop-init : goal.loop-init
+loop-init c = search testing
 
 pub returns-then-x-ge-TASKS : goal.returns-then-x-ge-TASKS
 returns-then-x-ge-TASKS c = search testing
@@ -11,8 +11,8 @@ returns-then-x-ge-TASKS c = search testing
 pub returns-then-previous-back : goal.returns-then-previous-back
 returns-then-previous-back c = search testing
 
-pub loop-left-preserved : goal.loop-left-preserved
-loop-left-preserved c = search testing
+pub loop-preserved : goal.loop-preserved
+loop-preserved c = search testing
 
 pub returns : goal.returns
 returns c = search testing

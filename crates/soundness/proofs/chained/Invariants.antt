@@ -3,8 +3,5 @@ use Rattle.queues.specs.Links.{Linked}
 use Rattle.soundness.proofs.Walks.{Testing}
 use Rattle.soundness.proofs.chained.Given as goal
 
-abbrev pub invariant-loop-left : goal.invariant-loop-left
-invariant-loop-left l = Testing l.w l.left l.back l.at (Linked l.w l.q)
-
-abbrev pub decreases-loop-left : goal.decreases-loop-left
-decreases-loop-left l = l.left
+abbrev pub invariant-loop : goal.invariant-loop
+invariant-loop l = Testing l.w l.counter l.back l.at (Linked l.w l.q)

@@ -1,6 +1,7 @@
--- Every task is filed, one a turn. Assumes nothing.
-use Rattle.kernel.proofs.Decided.{loop}
+-- Every task is filed where each is. Assumes nothing.
+use Rattle.std.proofs.Common.{rules}
+use Rattle.kernel.proofs.Ranges.{all_below}
 use Rattle.soundness.proofs.tasks_filed.Goals as goal
 
-pub loop-x-preserved : goal.loop-x-preserved
-loop-x-preserved c = search loop
+pub returns : goal.returns
+returns c = all_below c.all.ensures.ran (λ x b q k. search rules)

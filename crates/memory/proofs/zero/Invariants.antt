@@ -1,9 +1,0 @@
--- The bytes passed are 0. Assumes nothing.
-use Rattle.std.proofs.Common.{length, drop, replicate, ◌-◌, ◌≡◌, ◌≤◌, ◌++◌}
-use Rattle.memory.proofs.zero.Given as goal
-
-abbrev pub invariant-loop-i : goal.invariant-loop-i
-invariant-loop-i l = (l.i ≤ length l.initial.bytes) × (length l.bytes ≡ length l.initial.bytes) × (l.bytes ≡ replicate l.i 0 ++ drop l.i l.initial.bytes)
-
-abbrev pub decreases-loop-i : goal.decreases-loop-i
-decreases-loop-i l = length l.initial.bytes - l.i
