@@ -1,6 +1,5 @@
 -- From the verdict and the slice handed back to the promise of a showing. Assumes nothing.
-use mathlib.Core.Path.{◌≡◌, refl, ap, sym, subst, ◌∙◌}
-use mathlib.Core.Bool.{true}
+use mathlib.Core.Path.{◌≡◌, refl, ap, subst}
 use mathlib.Core.List.{List}
 use mathlib.Core.Option.{Option, some}
 use Prim.Native.Nat.{ℕ}
@@ -8,7 +7,7 @@ use lib.ListN.{length}
 use Rattle.std.specs.Prelude.{Ok, Err}
 use Rattle.kernel.specs.Answer.{Answer}
 use Rattle.kernel.specs.Sizes.{memory_size}
-use Rattle.kernel.specs.Channels.{own, is_reading}
+use Rattle.kernel.specs.Channels.{own}
 use Rattle.kernel.specs.Calls.{Call, Shown, Effect, effect, showed, showing, on_channel}
 use Rattle.kernel.specs.Seen.{seen}
 use Rattle.kernel.specs.Sound.{Sound}

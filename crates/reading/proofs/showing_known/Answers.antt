@@ -1,7 +1,7 @@
 -- A showing answers as the table and the model say. Assumes nothing.
-use Rattle.std.proofs.Common.{refl, sym, subst}
+use Rattle.std.proofs.Common.{refl}
 use Rattle.kernel.specs.Calls.{effect, part}
-use Rattle.kernel.specs.Slices.{Slice, slice, part_of}
+use Rattle.kernel.specs.Slices.{slice, part_of}
 use Rattle.kernel.specs.Promise.{lent}
 use Rattle.reading.specs.Message.{Shown}
 use Rattle.reading.proofs.HandsBack.{shows}
