@@ -1,13 +1,11 @@
 -- Two texts compared, and a verb sought among others. Assumes nothing.
 use mathlib.Core.Path.{◌≡◌, refl, sym, ◌∙◌}
-use mathlib.Core.Bool.{Bool, true, false, ◌&&◌}
+use mathlib.Core.Bool.{Bool, true, false}
 use mathlib.Core.List.{List, [], ◌∷◌}
 use Prim.Native.Nat.{ℕ}
 use Prim.Native.String.{String}
-use native.Mathlib.Omega.{arith}
-use lib.Dec.{eqb}
-use borrow.Author.Tests.{eqb-true}
 use Rattle.std.proofs.Common.{Option, Some, None, map, option_map, Bor, cond, ap}
+use Rattle.std.proofs.lemmas.Slice.Eq.{bytes_eq-Decides}
 use Rattle.std.specs.List.{find}
 use Rattle.std.specs.Str.{bytes_eq}
 use Rattle.kernel.specs.Channels.{same_bytes}
@@ -16,17 +14,6 @@ use Rattle.text.specs.Text.{bytes}
 use Rattle.verbs.specs.declared.Verb.{Verb}
 use Rattle.language.specs.Meaning.{sought}
 
-pub same_equal : (a b : List ℕ) → same_bytes a b ≡ true → a ≡ b
-unfolding same_bytes
-same_equal [] [] h = refl
-same_equal [] (y ∷ ys) h = absurd (let z : ◌≡◌ {A = ℕ} 0 1 = cc in omega arith)
-same_equal (x ∷ xs) [] h = absurd (let z : ◌≡◌ {A = ℕ} 0 1 = cc in omega arith)
-same_equal (x ∷ xs) (y ∷ ys) h = both (eqb x y) refl h (same_equal xs ys)
-  where
-    both : (t : Bool) → eqb x y ≡ t → t && same_bytes xs ys ≡ true → (same_bytes xs ys ≡ true → xs ≡ ys) → x ∷ xs ≡ y ∷ ys
-    both true e k equal = let first : x ≡ y = eqb-true x y e in let rest : xs ≡ ys = equal k in cc
-    both false e k equal = absurd (let z : ◌≡◌ {A = ℕ} 0 1 = cc in omega arith)
-
 -- The code compares two so.
 pub compared : (a b : List ℕ) → bytes_eq a b ≡ same_bytes a b
 unfolding same_bytes
@@ -34,6 +21,9 @@ compared [] [] = refl
 compared [] (y ∷ ys) = refl
 compared (x ∷ xs) [] = refl
 compared (x ∷ xs) (y ∷ ys) = rw (compared xs ys)
+
+pub same_equal : (a b : List ℕ) → same_bytes a b ≡ true → a ≡ b
+same_equal a b h = (bytes_eq-Decides a b).0 (compared a b ∙ h)
 
 -- What a comparison says.
 pub told : (a b c : List ℕ) {r t : Bool} → r ≡ bytes_eq a c → c ≡ b → r ≡ t → same_bytes a b ≡ t
