@@ -9,9 +9,9 @@ ghost use Rattle.programs.specs.Programs as Programs;
 ghost use Rattle.programs.specs.Programs.{model, Kept, Keeps, Ready, kept, desk, Reads, Ends, Turn, Ended, Fed};
 
 use kernel::State;
-use pieces::LONGEST;
+use pieces::{LONGEST, Turned};
 use recorder::Begun;
-use replayer::Replayed;
+use replayer::{Course, Replayed};
 
 #[derive(Clone, Copy)]
 pub enum Program {
@@ -43,19 +43,12 @@ pub fn start() -> Standing
         replayed: Replayed {
             number: 0,
             index: 0,
-            going: true,
-            found: false,
+            course: Course::GoesOn,
         },
     }
 }
 
-// Where a turn leads: no piece is begun then; and how much is printed.
-#[derive(Clone, Copy)]
-pub struct Turned {
-    pub at: Standing,
-    pub printed: usize,
-}
-
+// A piece has its turn: no piece is begun then.
 fn turn(
     p: Program,
     w: &mut [u32; State::WORDS],
@@ -64,7 +57,7 @@ fn turn(
     at: Standing,
     paper: &mut [u8],
     printed: usize,
-) -> Turned
+) -> Turned<Standing>
     requires ready { Ready (kept w.old block.old at) }
     requires room { printed + longest ≤ length paper.old }
     ensures { Turn p piece.now (kept w.old block.old at) (kept w.new block.new result.at) paper.old printed paper.new result.printed }
@@ -91,7 +84,7 @@ fn turn(
         }
         Program::Tape => {
             let t = lister::block(piece, at.listed, paper, printed);
-            next.listed = t.index;
+            next.listed = t.at;
             Turned {
                 at: next,
                 printed: t.printed,
@@ -116,7 +109,7 @@ fn ended(
     at: Standing,
     paper: &mut [u8],
     printed: usize,
-) -> Turned
+) -> Turned<Standing>
     requires piece_size { length piece.now ≡ longest }
     requires ready { Ready (kept w.old block.old at) }
     requires room { printed + longest ≤ length paper.old }
@@ -150,7 +143,7 @@ fn byte(
     b: u8,
     paper: &mut [u8],
     printed: usize,
-) -> Turned
+) -> Turned<Standing>
     requires piece_size { length piece.old ≡ longest }
     requires ready { Ready (kept w.old block.old at) }
     requires room { printed + longest ≤ length paper.old }

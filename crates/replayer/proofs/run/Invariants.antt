@@ -1,5 +1,5 @@
 -- Record by record: the run of those that are left is the run of all. Assumes nothing.
-use Rattle.std.proofs.Common.{◌≡◌, ◌-◌, ◌≤◌}
+use Rattle.std.proofs.Common.{◌≡◌}
 use Rattle.kernel.specs.Sound.{Sound}
 use Rattle.replayer.proofs.Runs.{ready, all, from}
 use Rattle.replayer.proofs.run.Given as goal
