@@ -185,24 +185,14 @@ fn all_known(block: &[u8], count: usize) -> bool
     requires { record_at count ≤ length block.now }
     ensures { result ≡ every Reader.known (records_of count (drop first_at block.now)) }
 {
-    for i in 0..count {
-        if !known(record_at(block, FIRST_AT + RECORD * i)) {
-            return false;
-        }
-    }
-    true
+    (0..count).all(|i| known(record_at(block, FIRST_AT + RECORD * i)))
 }
 
 fn all_spare(block: &[u8], count: usize) -> bool
     requires { record_at count ≤ length block.now }
     ensures { result ≡ every Reader.spare (records_of count (drop first_at block.now)) }
 {
-    for i in 0..count {
-        if !spare(record_at(block, FIRST_AT + RECORD * i)) {
-            return false;
-        }
-    }
-    true
+    (0..count).all(|i| spare(record_at(block, FIRST_AT + RECORD * i)))
 }
 
 #[tactic(auto, unfolding(crate::specs::Reader::zeros))]

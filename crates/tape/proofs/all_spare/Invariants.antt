@@ -1,8 +1,0 @@
--- Record by record: what is left of them decides the whole. Assumes nothing.
-use Rattle.std.proofs.Common.{◌≡◌}
-use Rattle.tape.specs.Reader.{spare}
-use Rattle.tape.proofs.Loops.{all, from}
-use Rattle.tape.proofs.all_spare.Given as goal
-
-abbrev pub invariant-loop-i : goal.invariant-loop-i
-invariant-loop-i l = all spare l.block l.count ≡ from spare l.block l.count l.i
