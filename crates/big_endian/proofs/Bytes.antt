@@ -140,7 +140,7 @@ reads l at k n {rest} room here =
       behind = sym (drop-drop k at l) ∙ ap (drop k) here ∙ drop_at (bytes k n) rest k size;
     }
 
-take_low : (n : ℕ) (l : List ℕ) → Low l → Low (take n l)
+pub take_low : (n : ℕ) (l : List ℕ) → Low l → Low (take n l)
 take_low zero l low i = omega arith
 take_low (suc n) [] low i = omega arith
 take_low (suc n) (b ∷ l) low zero = low 0

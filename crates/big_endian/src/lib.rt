@@ -13,10 +13,8 @@ pub fn value(bytes: &[u8], at: usize, n: usize) -> u32
     ensures { result ≡ BigEndian.value (part at n bytes.now) }
 {
     let mut v: u32 = 0;
-    let mut i: usize = 0;
-    while i < n {
+    for i in 0..n {
         v = v * 256 + bytes[at + i] as u32;
-        i += 1;
     }
     v
 }
@@ -27,9 +25,7 @@ pub fn write(bytes: &mut [u8], at: usize, n: usize, v: u32)
     ensures { bytes.new ≡ over bytes.old at (BigEndian.bytes n v) }
 {
     let mut rest = v;
-    let mut i = n;
-    while i > 0 {
-        i -= 1;
+    for i in (0..n).rev() {
         bytes[at + i] = (rest % 256) as u8;
         rest /= 256;
     }

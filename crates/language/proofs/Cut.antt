@@ -2,45 +2,40 @@
 use mathlib.Core.Path.{◌≡◌, refl, ap}
 use mathlib.Core.Bool.{Bool, true, false, cond}
 use mathlib.Core.List.{List, [], ◌∷◌, ◌++◌}
-use Prim.Native.Nat.{ℕ, suc, ◌+◌, ◌-◌, ◌<◌, ◌≤◌}
+use Prim.Native.Nat.{ℕ, suc, ◌+◌, ◌-◌, ◌<◌}
 use native.Mathlib.Numerals.{add-one}
 use native.Mathlib.Omega.{arith}
 use lib.Dec.{eqb}
-use lib.ListN.{length, take, drop, get_or, length-drop, length-append, drop_of_length-le}
-use lib.Seq.{take_all, split_at, take-append_seam, drop-append-add, drop-cons}
-use borrow.Author.Tests.{lt-ltb, le-ltb, ltb-true, eqb-true, ne_eqb}
-use Rattle.language.specs.declared.Line.{Line}
+use lib.ListN.{length, take, drop, get_or, length-drop, length-append}
+use lib.Seq.{take_all, split_at, take-append_seam, drop-append-add}
+use borrow.Author.Tests.{lt-ltb, ltb-true, eqb-true}
+use Rattle.std.proofs.Common.{Option, Some, None, ◌==◌, not, sym, ◌∙◌}
+use Rattle.std.proofs.lemmas.Option.{cond_some}
+use Rattle.std.specs.List.{position, position_or_len}
+use Rattle.verbs.specs.declared.Verb.{Verb}
 use Rattle.language.specs.Meaning.{index_of, index_after, space, before, behind, has_space}
 
--- The search for the space: it is not among the i bytes passed.
-module _ (l : List ℕ) (i : ℕ) (passed : space l ≡ i + space (drop i l)) where
-  next : i < length l → drop i l ≡ get_or l i 0 ∷ drop (i + 1) l
-  next h = rw add-one (drop-cons l i 0 h)
+-- The code seeks the space so.
+index_is : (l : List ℕ) → position_or_len (λ b. b == 32) l ≡ space l
+unfolding index_of index_after
+index_is [] = refl
+index_is (x ∷ xs) = elim (eqb x 32) as (λ t. cond (not t) (1 + position_or_len (λ b. b == 32) xs) 0 ≡ index_after t (space xs)) [ true ↦ refl | false ↦ rw (index_is xs) (omega arith) ]
 
-  pub here : i < length l → get_or l i 0 ≡ 32 → i ≡ space l
-  unfolding index_of index_after
-  here h e = rw (passed, next h, e) (omega arith)
+spaced : (l : List ℕ) → position (λ b. b == 32) l ≡ cond (has_space l) (Some (space l)) None
+spaced l = rw (index_is l)
 
-  pub not_here : i < length l → (get_or l i 0 ≡ 32 → ⊥) → space l ≡ i + 1 + space (drop (i + 1) l)
-  unfolding index_of index_after
-  not_here h e = rw (passed, next h, ne_eqb (get_or l i 0) 32 e) (omega arith)
+module _ (l : List ℕ) where
+  pub uncut : None ≡ position (λ b. b == 32) l → has_space l ≡ false
+  uncut e = go (has_space l) (e ∙ spaced l)
+    where
+      go : (t : Bool) → None ≡ cond t (Some (space l)) None → t ≡ false
+      go true none = cc
+      go false none = refl
 
-  pub nowhere : length l ≤ i → i ≤ length l → length l ≡ space l
-  unfolding index_of
-  nowhere h k = rw (passed, drop_of_length-le l {i = i} h) (omega arith)
-
--- A space was found at k, or none was.
-module _ (l : List ℕ) (k : ℕ) (found : k ≡ space l) where
-  pub cut
-      : (f : List ℕ → List ℕ → Line) (y : Line)
-      → k < length l
-      → f (take k l) (take (length l - (k + 1)) (drop (k + 1) l)) ≡ cond (has_space l) (f (before l) (behind l)) y
-  cut f y h =
-      let all : length (drop (k + 1) l) ≤ length l - (k + 1) = rw length-drop (omega arith) in
-      rw (take_all (length l - (k + 1)) (drop (k + 1) l) all, ← found, lt-ltb k (length l) h)
-
-  pub uncut : (x y : Line) → length l ≤ k → y ≡ cond (has_space l) x y
-  uncut x y h = rw (← found, le-ltb k (length l) h)
+  pub cut : (k : ℕ) → Some k ≡ position (λ b. b == 32) l → (has_space l ≡ true) × (take k l ≡ before l) × (take (length l - (k + 1)) (drop (k + 1) l) ≡ behind l)
+  cut k e =
+      let found = cond_some (has_space l) (space l) k (sym (e ∙ spaced l)) in
+      (found.0, rw found.1, rw found.1 (take_all (length l - (k + 1)) (drop (k + 1) l) (rw length-drop (omega arith))))
 
 -- Where a space stands.
 a_space : (l : List ℕ) → space l < length l → get_or l (space l) 0 ≡ 32
@@ -80,7 +75,7 @@ word_then (x ∷ w) r h = go (eqb x 32) h (word_then w r)
     go false e more = ap suc (more (omega arith))
 
 pub cut_behind
-    : (w r : List ℕ) → Word w → (f : List ℕ → List ℕ → Line) (y : Line)
+    : (w r : List ℕ) → Word w → (f : List ℕ → List ℕ → Option Verb) (y : Option Verb)
     → cond (has_space (w ++ (32 ∷ r))) (f (before (w ++ (32 ∷ r))) (behind (w ++ (32 ∷ r)))) y ≡ f w r
 cut_behind w r h f y =
     let inside : length w < length (w ++ (32 ∷ r)) = rw length-append (omega arith) in

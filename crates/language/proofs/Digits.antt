@@ -8,7 +8,7 @@ use native.Mathlib.Omega.{arith}
 use lib.Dec.{lit<}
 use lib.ListN.{length, get_or, drop, drop_of_length-le}
 use lib.Seq.{drop-cons}
-use Rattle.language.specs.declared.Number.TheVariants.{NoNumber, Is}
+use Rattle.std.proofs.Common.{Some, None}
 use Rattle.language.specs.Language.{Digit}
 use Rattle.language.specs.Meaning.{number_from, number_of}
 use Rattle.language.proofs.Between.{inside, outside}
@@ -21,7 +21,7 @@ pub record Read (ds : List ℕ) (i n : ℕ) : Type 0 where
   pub left : number_of ds ≡ number_from n (drop i ds)
 
 module _ (ds : List ℕ) where
-  pub unsized : ((1 ≤ length ds) × (length ds ≤ 10) → ⊥) → NoNumber ≡ number_of ds
+  pub unsized : ((1 ≤ length ds) × (length ds ≤ 10) → ⊥) → None ≡ number_of ds
   unfolding number_of
   unsized h = rw (outside 1 (length ds) 10 h)
 
@@ -30,7 +30,7 @@ module _ (ds : List ℕ) where
   begins h = record { within = omega arith; few = h.1; small = omega arith; left = rw (inside 1 (length ds) 10 h) }
 
 module _ {ds : List ℕ} {i n : ℕ} (read : Read ds i n) where
-  pub ends : length ds ≤ i → Is n ≡ number_of ds
+  pub ends : length ds ≤ i → Some n ≡ number_of ds
   unfolding number_from
   ends l = rw (read.left, drop_of_length-le ds l)
 
@@ -41,7 +41,7 @@ module _ {ds : List ℕ} {i n : ℕ} (read : Read ds i n) where
     pub room : n < 1000000000
     room = let most : i ≤ 9 = omega (arith, read.few) in lt_of_lt_of_le read.small (pow-le-pow_right {n = 10} (lit< tt) most)
 
-    pub stops : (Digit (get_or ds i 0) → ⊥) → NoNumber ≡ number_of ds
+    pub stops : (Digit (get_or ds i 0) → ⊥) → None ≡ number_of ds
     unfolding number_from
     stops h = rw (read.left, next, outside 48 (get_or ds i 0) 57 h)
 

@@ -5,11 +5,11 @@ use Prim.Native.Nat.{ℕ, ◌+◌, ◌<◌, ◌≤◌}
 use Prim.Native.String.{String}
 use native.Mathlib.Omega.{arith}
 use lib.ListN.{length, length-append}
+use Rattle.std.proofs.Common.{Option, Some, None}
 use Rattle.kernel.specs.Calls.{Verb, tick, create_hard, create_nrt, activate, sleep, cycle, end, kill, new_semaphore, delete, wait, signal, Call, verb, question, on_channel}
 use Rattle.text.specs.Text.{bytes}
+use Rattle.verbs.specs.declared.Verb as Code
 use Rattle.verbs.specs.Verbs.{verb_of}
-use Rattle.language.specs.declared.Line.{Line}
-use Rattle.language.specs.declared.Line.TheVariants.{NoCall, Asks}
 use Rattle.language.specs.Language.{With, WithTwo, SpellsVerb, Spells}
 use Rattle.language.specs.Meaning.{call_of, meaning}
 use Rattle.language.proofs.Language.{language}
@@ -44,9 +44,9 @@ short line (question q) s = absurd s
 short line (on_channel a) s = absurd s
 
 -- A line of more than 64 bytes means no call.
-pub long_line : (line : List ℕ) → 64 < length line → meaning line ≡ NoCall
+pub long_line : (line : List ℕ) → 64 < length line → meaning line ≡ None
 long_line line l = go (meaning line) refl
   where
-    go : (m : Line) → meaning line ≡ m → m ≡ NoCall
-    go NoCall e = refl
-    go (Asks v) e = let c = verb (verb_of v) in absurd (omega (arith, short line c ((language line c).0 (ap call_of e))))
+    go : (m : Option Code.Verb) → meaning line ≡ m → m ≡ None
+    go None e = refl
+    go (Some v) e = let c = verb (verb_of v) in absurd (omega (arith, short line c ((language line c).0 (ap call_of e))))

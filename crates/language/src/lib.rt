@@ -1,152 +1,109 @@
 // The language of scripts: a line of bytes to the call that it asks for.
 #![tactic(auto)]
 
-ghost use Rattle.std.specs.Prelude.{◌≡◌};
+ghost use Rattle.std.specs.Prelude.{◌≡◌, true, false, ◌==◌, option_map, MatchOption};
+ghost use Rattle.std.specs.List.{find, position};
+ghost use Rattle.std.specs.Str.{bytes_eq};
 ghost use Rattle.language.specs.Meaning as Meaning;
-ghost use Rattle.language.specs.Meaning.{number_of, meaning};
+ghost use Rattle.language.specs.Meaning.{before, behind, has_space, number_of, meaning};
 
 use kernel::{SemaphoreNo, TaskNo};
 use verbs::Verb;
 
-#[derive(Clone, Copy)]
-enum Number {
-    NoNumber,
-    Is(u64),
-}
-
-// What a line asks for.
-#[derive(Clone, Copy)]
-pub enum Line {
-    NoCall,
-    Asks(Verb),
-}
-
 // Ten digits have room in 64 bits.
-fn value(digits: &[u8]) -> Number
+fn value(digits: &[u8]) -> Option<u64>
     ensures { result ≡ number_of digits.now }
 {
-    if digits.len() < 1 {
-        return Number::NoNumber;
-    }
-    if digits.len() > 10 {
-        return Number::NoNumber;
+    if digits.is_empty() || digits.len() > 10 {
+        return None;
     }
     let mut n: u64 = 0;
-    let mut i = 0;
-    while i < digits.len() {
-        let b = digits[i];
-        if b < b'0' {
-            return Number::NoNumber;
+    for b in digits {
+        if !b.is_ascii_digit() {
+            return None;
         }
-        if b > b'9' {
-            return Number::NoNumber;
-        }
-        n = n * 10 + (b - b'0') as u64;
-        i += 1;
+        n = n * 10 + u64::from(*b - b'0');
     }
-    Number::Is(n)
+    Some(n)
 }
 
-fn alone(verb: &[u8]) -> Line
+// What a word asks for, sought among the verbs listed.
+fn sought(word: &[u8], verbs: &[(&[u8], Verb)]) -> Option<Verb>
+    ensures { result ≡ option_map (λ v. v.1) (find (λ v. bytes_eq word.now v.0.now) verbs.now) }
+{
+    verbs.iter().find(|v| word == v.0).map(|v| v.1)
+}
+
+fn alone(verb: &[u8]) -> Option<Verb>
     ensures { result ≡ Meaning.alone verb.now }
 {
-    if check::same(verb, b"tick") {
-        return Line::Asks(Verb::Tick);
-    }
-    if check::same(verb, b"sleep") {
-        return Line::Asks(Verb::Sleep);
-    }
-    if check::same(verb, b"cycle") {
-        return Line::Asks(Verb::Cycle);
-    }
-    if check::same(verb, b"end") {
-        return Line::Asks(Verb::End);
-    }
-    Line::NoCall
+    sought(
+        verb,
+        &[
+            (b"tick", Verb::Tick),
+            (b"sleep", Verb::Sleep),
+            (b"cycle", Verb::Cycle),
+            (b"end", Verb::End),
+        ],
+    )
 }
 
-fn with_one(verb: &[u8], n: u64) -> Line
+fn with_one(verb: &[u8], n: u64) -> Option<Verb>
     ensures { result ≡ Meaning.with_one verb.now n }
 {
-    if check::same(verb, b"nrt") {
-        return Line::Asks(Verb::Nrt(n));
-    }
-    if check::same(verb, b"activate") {
-        return Line::Asks(Verb::Activate(TaskNo(n as usize)));
-    }
-    if check::same(verb, b"kill") {
-        return Line::Asks(Verb::Kill(TaskNo(n as usize)));
-    }
-    if check::same(verb, b"newsem") {
-        return Line::Asks(Verb::Newsem(n));
-    }
-    if check::same(verb, b"delsem") {
-        return Line::Asks(Verb::Delsem(SemaphoreNo(n as usize)));
-    }
-    if check::same(verb, b"wait") {
-        return Line::Asks(Verb::Wait(SemaphoreNo(n as usize)));
-    }
-    if check::same(verb, b"signal") {
-        return Line::Asks(Verb::Signal(SemaphoreNo(n as usize)));
-    }
-    Line::NoCall
+    let task = TaskNo(n as usize);
+    let semaphore = SemaphoreNo(n as usize);
+    sought(
+        verb,
+        &[
+            (b"nrt", Verb::Nrt(n)),
+            (b"activate", Verb::Activate(task)),
+            (b"kill", Verb::Kill(task)),
+            (b"newsem", Verb::Newsem(n)),
+            (b"delsem", Verb::Delsem(semaphore)),
+            (b"wait", Verb::Wait(semaphore)),
+            (b"signal", Verb::Signal(semaphore)),
+        ],
+    )
 }
 
-fn with_two(period: Number, cost: Number) -> Line
-    ensures { result ≡ Meaning.with_two period cost }
+// Where the first space of a line stands.
+fn space(line: &[u8]) -> Option<usize>
+    ensures { result ≡ position (λ b. b == 32) line.now }
 {
-    let Number::Is(p) = period else {
-        return Line::NoCall;
-    };
-    let Number::Is(c) = cost else {
-        return Line::NoCall;
-    };
-    Line::Asks(Verb::Hard(p, c))
+    line.iter().position(|b| *b == b' ')
 }
 
-fn space(line: &[u8]) -> usize
-    ensures { result ≡ Meaning.space line.now }
+// What stands before it, and behind it.
+fn cut_at_space(line: &[u8]) -> Option<(&[u8], &[u8])>
+    ensures { MatchOption result (has_space line.now ≡ false) (λ p. (has_space line.now ≡ true) × (p.0.now ≡ before line.now) × (p.1.now ≡ behind line.now)) }
 {
-    for (i, b) in line.iter().enumerate() {
-        if *b == b' ' {
-            return i;
-        }
-    }
-    line.len()
+    let end = space(line)?;
+    Some((&line[..end], &line[end + 1..]))
 }
 
-fn hard(numbers: &[u8]) -> Line
+fn hard(numbers: &[u8]) -> Option<Verb>
     ensures { result ≡ Meaning.hard numbers.now }
 {
-    let end = space(numbers);
-    if end < numbers.len() {
-        let next = end + 1;
-        with_two(value(&numbers[..end]), value(&numbers[next..]))
-    } else {
-        Line::NoCall
-    }
+    let (period, cost) = cut_at_space(numbers)?;
+    Some(Verb::Hard(value(period)?, value(cost)?))
 }
 
-fn followed(verb: &[u8], rest: &[u8]) -> Line
+fn followed(verb: &[u8], rest: &[u8]) -> Option<Verb>
     ensures { result ≡ Meaning.followed verb.now rest.now }
 {
-    if check::same(verb, b"hard") {
+    if verb == b"hard".as_slice() {
         return hard(rest);
     }
-    match value(rest) {
-        Number::Is(n) => with_one(verb, n),
-        Number::NoNumber => Line::NoCall,
-    }
+    with_one(verb, value(rest)?)
 }
 
-pub fn read(line: &[u8]) -> Line
+#[tactic(auto, unfolding(crate::specs::Meaning::meaning))]
+pub fn read(line: &[u8]) -> Option<Verb>
     ensures { result ≡ meaning line.now }
 {
-    let end = space(line);
-    if end < line.len() {
-        let next = end + 1;
-        followed(&line[..end], &line[next..])
-    } else {
-        alone(line)
+    match cut_at_space(line) {
+        Some((verb, rest)) => followed(verb, rest),
+        None => alone(line),
     }
 }

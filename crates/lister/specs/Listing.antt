@@ -1,12 +1,10 @@
 -- The program `tape`: a line for each block. Assumes nothing.
-use Rattle.std.specs.Prelude.{List, [], ◌++◌, ℕ}
+use Rattle.std.specs.Prelude.{Ok, Err, List, [], ◌++◌, ℕ}
 use Rattle.text.specs.Text.{bytes, decimal}
 use Rattle.pieces.specs.Program.{blocks, next_index, Turned, Program}
 use Rattle.tape.specs.declared.Fault.{Fault}
 use Rattle.tape.specs.declared.Fault.TheVariants.{Short, Check, Count, Verb, Spare}
-use Rattle.tape.specs.declared.Reading.{Reading}
-use Rattle.tape.specs.declared.Reading.TheVariants.{Refused, Accepted}
-use Rattle.tape.specs.Reader.{reading}
+use Rattle.tape.specs.Reader.{Reading, reading}
 
 -- A refusal's name.
 abbrev pub name : Fault → List ℕ
@@ -18,8 +16,8 @@ name Spare = bytes "spare"
 
 -- `block N records K`, or `refused NAME`.
 abbrev pub told : Reading → List ℕ
-told (Accepted number count) = bytes "block " ++ (decimal number ++ (bytes " records " ++ decimal count))
-told (Refused f) = bytes "refused " ++ name f
+told (Ok a) = bytes "block " ++ (decimal a.number ++ (bytes " records " ++ decimal a.count))
+told (Err f) = bytes "refused " ++ name f
 
 -- The line of block i: its index first.
 abbrev pub line : ℕ → Reading → List ℕ

@@ -8,14 +8,8 @@ ghost use Rattle.pieces.specs.Reads.{Taken};
 ghost use Rattle.lister.specs.Listing as Listing;
 ghost use Rattle.lister.specs.Listing.{lister};
 
-use tape::{Fault, Reading};
-
-// Where a block leads: the index of the next, and how much is printed.
-#[derive(Clone, Copy)]
-pub struct Turned {
-    pub index: u64,
-    pub printed: usize,
-}
+use pieces::Turned;
+use tape::{Accepted, Fault};
 
 fn name(f: Fault, paper: &mut [u8], at: usize) -> usize
     requires { at + 5 ≤ length paper.old }
@@ -30,18 +24,18 @@ fn name(f: Fault, paper: &mut [u8], at: usize) -> usize
     }
 }
 
-fn tell(r: Reading, paper: &mut [u8], at: usize) -> usize
+fn tell(r: Result<Accepted, Fault>, paper: &mut [u8], at: usize) -> usize
     requires { at + 100 ≤ length paper.old }
     ensures { Continued paper.old at (Listing.told r) paper.new result }
 {
     match r {
-        Reading::Accepted(number, count) => {
+        Ok(accepted) => {
             let a = text::put(paper, at, b"block ");
-            let b = text::decimal(paper, a, number as u64);
+            let b = text::decimal(paper, a, accepted.number as u64);
             let c = text::put(paper, b, b" records ");
-            text::decimal(paper, c, count as u64)
+            text::decimal(paper, c, accepted.count as u64)
         }
-        Reading::Refused(f) => {
+        Err(f) => {
             let a = text::put(paper, at, b"refused ");
             name(f, paper, a)
         }
@@ -49,15 +43,15 @@ fn tell(r: Reading, paper: &mut [u8], at: usize) -> usize
 }
 
 // The block of this index is read, and what the reader makes of it is printed.
-pub fn block(block: &[u8], index: u64, paper: &mut [u8], printed: usize) -> Turned
+pub fn block(block: &[u8], index: u64, paper: &mut [u8], printed: usize) -> Turned<u64>
     requires { printed + longest ≤ length paper.old }
-    ensures { Taken lister ℕ ◌≡◌ block.now index result.index paper.old printed paper.new result.printed }
+    ensures { Taken lister ℕ ◌≡◌ block.now index result.at paper.old printed paper.new result.printed }
 {
     let a = text::decimal(paper, printed, index);
     let b = text::put(paper, a, b" ");
     let c = tell(tape::read(block), paper, b);
     Turned {
-        index: pieces::next_index(index),
+        at: pieces::next_index(index),
         printed: text::put(paper, c, b"\n"),
     }
 }

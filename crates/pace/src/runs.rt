@@ -48,8 +48,7 @@ pub fn made(script: Packed, tested: bool, times: u64) -> u64
         let mut i: usize = 0;
         while i < count {
             let asked = calls[i];
-            let verb = asked.verb;
-            check = call(&mut w, tested, verb, check);
+            check = call(&mut w, tested, asked, check);
             i += 1;
         }
         left -= 1;

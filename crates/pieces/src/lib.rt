@@ -9,6 +9,13 @@ ghost use Rattle.pieces.specs.Reads.{Longer};
 // Blocks have 512 bytes, and no longer line means anything.
 pub const LONGEST: usize = 512;
 
+// Where the turn of a piece leads: where the program stands then, and how much is printed.
+#[derive(Clone, Copy)]
+pub struct Turned<T> {
+    pub at: T,
+    pub printed: usize,
+}
+
 // One byte more in the piece that is begun. A line that is too long stays so.
 pub fn longer(piece: &mut [u8], n: usize, b: u8) -> usize
     requires { length piece.old ≡ longest }
@@ -26,5 +33,5 @@ pub fn longer(piece: &mut [u8], n: usize, b: u8) -> usize
 pub fn next_index(i: u64) -> u64
     ensures { result ≡ Program.next_index i }
 {
-    if i < u64::MAX { i + 1 } else { i }
+    i.saturating_add(1)
 }

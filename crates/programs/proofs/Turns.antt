@@ -4,11 +4,11 @@ use mathlib.Core.List.{List, []}
 use Prim.Native.Nat.{ℕ, ◌<◌}
 use native.Mathlib.Omega.{arith}
 use lib.ListN.{length}
+use Rattle.std.proofs.Common.{None}
 use Rattle.language.specs.Meaning.{index_of, index_after}
 use Rattle.kernel.specs.Kernel.{Kernel}
 use Rattle.kernel.specs.Sound.{Sound}
 use Rattle.kernel.specs.Channels.{same_bytes}
-use Rattle.language.specs.declared.Line.TheVariants.{NoCall}
 use Rattle.language.specs.Meaning.{call_of, sought, meaning}
 use Rattle.language.proofs.Length.{long_line}
 use Rattle.text.proofs.Follows.{nothing}
@@ -90,7 +90,7 @@ module _ (piece w block : List ℕ) (at : Standing) (ready : Ready (kept w block
 pub of : {p q : Program} {piece : List ℕ} {k k' : Kept} {paper : List ℕ} {printed : ℕ} {paper' : List ℕ} {n : ℕ} → p ≡ q → Turn q piece k k' paper printed paper' n → Turn p piece k k' paper printed paper' n
 of {piece = piece} {k} {k'} {paper} {printed} {paper'} {n} e t = subst (λ (x : Program). Turn x piece k k' paper printed paper' n) (sym e) t
 
-no_line : meaning [] ≡ NoCall
+no_line : meaning [] ≡ None
 unfolding meaning sought same_bytes index_of index_after
 no_line = refl
 

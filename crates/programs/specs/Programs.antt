@@ -1,5 +1,5 @@
 -- The programs, and what their code keeps between two pieces of the input. Assumes nothing.
-use Rattle.std.specs.Prelude.{◌≡◌, true, false, List, [], ◌∷◌, ℕ, ◌≤◌, length}
+use Rattle.std.specs.Prelude.{◌≡◌, List, [], ◌∷◌, ℕ, ◌≤◌, length}
 use Rattle.kernel.specs.Seen.{seen}
 use Rattle.text.specs.Text.{Continued}
 use Rattle.pieces.specs.Program as Pieces
@@ -11,6 +11,7 @@ use Rattle.recorder.specs.Tape.{recorder}
 use Rattle.recorder.specs.Keeps as Recorder
 use Rattle.lister.specs.Listing.{lister}
 use Rattle.replayer.specs.Replay.{replayer, replaying}
+use Rattle.replayer.specs.declared.Course.TheVariants.{GoesOn}
 use Rattle.programs.specs.declared.Program.{Program}
 use Rattle.programs.specs.declared.Program.TheVariants.{Dick, Record, Tape, Replay}
 use Rattle.programs.specs.declared.Standing.{Standing}
@@ -54,7 +55,7 @@ pub record Stands (p : Program) (d : Desk) (x : Place (model p)) : Type 0 where
 
 -- What is kept at the start.
 abbrev pub start : Standing
-start = record { begun = 0; recorded = record { count = 0; number = 0 }; listed = 0; replayed = record { number = 0; index = 0; going = true; found = false } }
+start = record { begun = 0; recorded = record { count = 0; number = 0 }; listed = 0; replayed = record { number = 0; index = 0; course = GoesOn } }
 
 -- So many bytes of a piece are begun.
 abbrev pub with_begun : Standing → ℕ → Standing

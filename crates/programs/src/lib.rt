@@ -9,9 +9,9 @@ ghost use Rattle.programs.specs.Programs as Programs;
 ghost use Rattle.programs.specs.Programs.{model, Kept, Keeps, Ready, kept, desk, Reads, Ends, Turn, Ended, Fed};
 
 use kernel::State;
-use pieces::LONGEST;
+use pieces::{LONGEST, Turned};
 use recorder::Begun;
-use replayer::Replayed;
+use replayer::{Course, Replayed};
 
 #[derive(Clone, Copy)]
 pub enum Program {
@@ -43,19 +43,12 @@ pub fn start() -> Standing
         replayed: Replayed {
             number: 0,
             index: 0,
-            going: true,
-            found: false,
+            course: Course::GoesOn,
         },
     }
 }
 
-// Where a turn leads: no piece is begun then; and how much is printed.
-#[derive(Clone, Copy)]
-pub struct Turned {
-    pub at: Standing,
-    pub printed: usize,
-}
-
+// A piece has its turn: no piece is begun then.
 fn turn(
     p: Program,
     w: &mut [u32; State::WORDS],
@@ -64,44 +57,46 @@ fn turn(
     at: Standing,
     paper: &mut [u8],
     printed: usize,
-) -> Turned
+) -> Turned<Standing>
     requires ready { Ready (kept w.old block.old at) }
     requires room { printed + longest ≤ length paper.old }
     ensures { Turn p piece.now (kept w.old block.old at) (kept w.new block.new result.at) paper.old printed paper.new result.printed }
 {
-    let mut next = at;
-    next.begun = 0;
+    let next = Standing { begun: 0, ..at };
     match p {
-        Program::Dick => {
-            let n = script::step(w, piece, paper, printed);
-            Turned {
-                at: next,
-                printed: n,
-            }
-        }
+        Program::Dick => Turned {
+            at: next,
+            printed: script::step(w, piece, paper, printed),
+        },
         Program::Record => {
-            let from = at.recorded;
-            let t = recorder::line(w, piece, block, from, paper, printed);
-            let to = t.at;
-            next.recorded = to;
+            let t = recorder::line(w, piece, block, at.recorded, paper, printed);
             Turned {
-                at: next,
+                at: Standing {
+                    recorded: t.at,
+                    ..next
+                },
                 printed: t.printed,
             }
         }
         Program::Tape => {
             let t = lister::block(piece, at.listed, paper, printed);
-            next.listed = t.index;
             Turned {
-                at: next,
+                at: Standing {
+                    listed: t.at,
+                    ..next
+                },
                 printed: t.printed,
             }
         }
         Program::Replay => {
-            let from = at.replayed;
-            let to = replayer::block(w, piece, from);
-            next.replayed = to;
-            Turned { at: next, printed }
+            let to = replayer::block(w, piece, at.replayed);
+            Turned {
+                at: Standing {
+                    replayed: to,
+                    ..next
+                },
+                printed,
+            }
         }
     }
 }
@@ -116,7 +111,7 @@ fn ended(
     at: Standing,
     paper: &mut [u8],
     printed: usize,
-) -> Turned
+) -> Turned<Standing>
     requires piece_size { length piece.now ≡ longest }
     requires ready { Ready (kept w.old block.old at) }
     requires room { printed + longest ≤ length paper.old }
@@ -150,7 +145,7 @@ fn byte(
     b: u8,
     paper: &mut [u8],
     printed: usize,
-) -> Turned
+) -> Turned<Standing>
     requires piece_size { length piece.old ≡ longest }
     requires ready { Ready (kept w.old block.old at) }
     requires room { printed + longest ≤ length paper.old }
@@ -161,17 +156,20 @@ fn byte(
         if newline {
             return ended(p, w, piece, at.begun, block, at, paper, printed);
         }
-        let mut next = at;
-        next.begun = pieces::longer(piece, at.begun, b);
-        return Turned { at: next, printed };
+        let begun = pieces::longer(piece, at.begun, b);
+        return Turned {
+            at: Standing { begun, ..at },
+            printed,
+        };
     }
     let n = pieces::longer(piece, at.begun, b);
     if n == LONGEST {
         return ended(p, w, piece, n, block, at, paper, printed);
     }
-    let mut next = at;
-    next.begun = n;
-    Turned { at: next, printed }
+    Turned {
+        at: Standing { begun: n, ..at },
+        printed,
+    }
 }
 
 // How far a part of the input was read, where the program stands then, and how much was printed.
@@ -204,16 +202,20 @@ pub fn feed(
     let room = paper.len() - LONGEST;
     let mut at = from;
     let mut printed: usize = 0;
-    let mut i: usize = 0;
-    while i < bytes.len() && printed <= room {
-        let t = byte(p, w, piece, block, at, bytes[i], paper, printed);
-        let next = t.at;
-        at = next;
+    for (i, b) in bytes.iter().enumerate() {
+        if printed > room {
+            return Progress {
+                read: i,
+                at,
+                printed,
+            };
+        }
+        let t = byte(p, w, piece, block, at, *b, paper, printed);
+        at = t.at;
         printed = t.printed;
-        i += 1;
     }
     Progress {
-        read: i,
+        read: bytes.len(),
         at,
         printed,
     }
@@ -248,15 +250,9 @@ fn finish(
 {
     match p {
         Program::Dick => printed,
-        Program::Record => {
-            let last = at.recorded;
-            recorder::finish(w, block, last, paper, printed)
-        }
+        Program::Record => recorder::finish(w, block, at.recorded, paper, printed),
         Program::Tape => printed,
-        Program::Replay => {
-            let last = at.replayed;
-            replayer::finish(last, paper, printed)
-        }
+        Program::Replay => replayer::finish(at.replayed, paper, printed),
     }
 }
 
@@ -280,6 +276,5 @@ pub fn end(
         return finish(p, w, block, at, paper, 0);
     }
     let t = ended(p, w, piece, at.begun, block, at, paper, 0);
-    let last = t.at;
-    finish(p, w, block, last, paper, t.printed)
+    finish(p, w, block, t.at, paper, t.printed)
 }

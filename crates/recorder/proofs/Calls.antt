@@ -1,11 +1,11 @@
 -- The records of a script are those of calls that are made one behind the other, and have room in their blocks. Assumes nothing.
 use mathlib.Core.List.{List, [], ◌∷◌, ◌++◌}
 use Prim.Native.Nat.{ℕ}
+use Rattle.std.proofs.Common.{Option, Some, None}
 use Rattle.kernel.specs.Kernel.{Kernel}
 use Rattle.kernel.specs.Calls.{Verb}
+use Rattle.verbs.specs.declared.Verb as Code
 use Rattle.verbs.specs.Verbs.{verb_of}
-use Rattle.language.specs.declared.Line.{Line}
-use Rattle.language.specs.declared.Line.TheVariants.{NoCall, Asks}
 use Rattle.language.specs.Meaning.{meaning}
 use Rattle.tape.specs.declared.Record.{Record}
 use Rattle.tape.specs.Form.{AllRecordable}
@@ -24,9 +24,9 @@ module _
     of_calls [] k = none k
     of_calls (l ∷ ls) k = go (meaning l) (of_calls ls)
       where
-        go : (m : Line) → ((j : Kernel) → P (records ls j) j) → P ((by_line m k).records ++ records ls (by_line m k).kernel) k
-        go NoCall others = others k
-        go (Asks v) others = let j = (outcome (verb_of v) k).kernel in more (verb_of v) k (records ls j) (others j)
+        go : (m : Option Code.Verb) → ((j : Kernel) → P (records ls j) j) → P ((by_line m k).records ++ records ls (by_line m k).kernel) k
+        go None others = others k
+        go (Some v) others = let j = (outcome (verb_of v) k).kernel in more (verb_of v) k (records ls j) (others j)
 
 -- **all_recordable**: every record of a script has room in its 16 bytes.
 pub all_recordable : (ls : List (List ℕ)) (k : Kernel) → AllRecordable (records ls k)

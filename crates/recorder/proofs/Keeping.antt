@@ -5,15 +5,16 @@ use Prim.Native.Nat.{ℕ, ◌+◌, ◌≤◌, ◌<◌}
 use native.Mathlib.Omega.{arith}
 use lib.ListN.{length, length-append, drop_of_length-le}
 use borrow.Author.Tests.{eq-eqb, ne_eqb}
+use Rattle.std.proofs.Common.{Some, None}
 use Rattle.kernel.specs.declared.Answer.{Answer}
 use Rattle.kernel.specs.Seen.{seen}
 use Rattle.kernel.specs.Sound.{Sound}
 use Rattle.verbs.specs.declared.Verb.{Verb}
 use Rattle.verbs.specs.Verbs.{verb_of}
-use Rattle.language.specs.declared.Line.TheVariants.{NoCall, Asks}
 use Rattle.language.specs.Meaning.{meaning}
 use Rattle.text.specs.Text.{Continued}
 use Rattle.text.proofs.Follows.{nothing}
+use Rattle.pieces.specs.declared.Turned as Code
 use Rattle.pieces.specs.Program.{Turned}
 use Rattle.pieces.specs.Reads.{Taken, Finished}
 use Rattle.tape.specs.declared.Record.{Record}
@@ -24,7 +25,6 @@ use Rattle.tape.proofs.Held.{none_held, one_more_held, closed_written, placed_le
 use Rattle.records.specs.Records.{outcome, record_of}
 use Rattle.records.proofs.Made.{Made}
 use Rattle.recorder.specs.declared.Begun.{Begun}
-use Rattle.recorder.specs.declared.Turned as Code
 use Rattle.recorder.specs.Tape.{next, last_block, Recording, more_recorded, turn, recorder}
 use Rattle.recorder.specs.Keeps.{Kept, Ready, Keeps, Recorded, put, full}
 
@@ -43,12 +43,12 @@ all_written b number rs size some most h =
 
 -- In the words w' behind the call, the record r was put in the block.
 module _ (b : List ℕ) (at : Begun) (r : Record) (w' : List ℕ) (size : length b ≡ block_size) (room : at.count < most_records) where
-  pub still_ready : {paper b' paper' : List ℕ} {printed : ℕ} {t : Code.Turned} → Sound w' → Recorded b at r paper printed b' paper' t → Ready (record { words = w'; block = b'; at = t.at })
+  pub still_ready : {paper b' paper' : List ℕ} {printed : ℕ} {t : Code.Turned Begun} → Sound w' → Recorded b at r paper printed b' paper' t → Ready (record { words = w'; block = b'; at = t.at })
   still_ready sound (put less e s u) = rw (u, e) (record { sound = sound; size = placed_length b at.count r ∙ size; room = less })
   still_ready sound (full same e s u) =
       rw (u, e) (record { sound = sound; size = closed_length (placed b at.count r) at.number most_records ∙ placed_length b at.count r ∙ size; room = omega arith })
 
-  module _ (line w : List ℕ) (asked : Verb) (a : Answer) (asks : meaning line ≡ Asks asked) (m : Made (verb_of asked) w w' a) (is : r ≡ record_of (verb_of asked) (seen w)) where
+  module _ (line w : List ℕ) (asked : Verb) (a : Answer) (asks : meaning line ≡ Some asked) (m : Made (verb_of asked) w w' a) (is : r ≡ record_of (verb_of asked) (seen w)) where
     abbrev before : Kept
     before = record { words = w; block = b; at = at }
 
@@ -67,7 +67,7 @@ module _ (b : List ℕ) (at : Begun) (r : Record) (w' : List ℕ) (size : length
     one_longer : (begun : List Record) (x : Record) → length (begun ++ (x ∷ [])) ≡ length begun + 1
     one_longer begun x = length-append begun (x ∷ [])
 
-    pub call_taken : {paper b' paper' : List ℕ} {printed : ℕ} {t : Code.Turned} → Recorded b at r paper printed b' paper' t
+    pub call_taken : {paper b' paper' : List ℕ} {printed : ℕ} {t : Code.Turned Begun} → Recorded b at r paper printed b' paper' t
         → Taken recorder Kept Keeps line before (record { words = w'; block = b'; at = t.at }) paper printed paper' t.printed
     call_taken {paper} {printed = printed} (put less e s u) =
         rw (u, e, s)
@@ -97,7 +97,7 @@ module _ (b : List ℕ) (at : Begun) (r : Record) (w' : List ℕ) (size : length
 
 -- ---- any other line, and the end
 
-pub no_call_taken : (line : List ℕ) (k : Kept) (paper : List ℕ) (printed : ℕ) → meaning line ≡ NoCall → Taken recorder Kept Keeps line k k paper printed paper printed
+pub no_call_taken : (line : List ℕ) (k : Kept) (paper : List ℕ) (printed : ℕ) → meaning line ≡ None → Taken recorder Kept Keeps line k k paper printed paper printed
 unfolding turn
 no_call_taken line k paper printed none = record { text = []; put = nothing paper printed; short = omega arith; keeps = λ s h. rw none h; prints = λ s h. rw none refl }
 

@@ -4,10 +4,10 @@ use mathlib.Core.List.{List, [], ◌∷◌, ◌++◌}
 use Prim.Native.Nat.{ℕ, ◌+◌}
 use lib.Dec.{eqb}
 use lib.ListN.{length}
+use Rattle.std.proofs.Common.{Option, Some, None}
 use Rattle.kernel.proofs.Decided.{either}
+use Rattle.verbs.specs.declared.Verb.{Verb}
 use Rattle.verbs.specs.Verbs.{verb_of}
-use Rattle.language.specs.declared.Line.{Line}
-use Rattle.language.specs.declared.Line.TheVariants.{NoCall, Asks}
 use Rattle.language.specs.Meaning.{meaning}
 use Rattle.pieces.specs.Program.{lines, pieces, Turned, prints, output}
 use Rattle.tape.specs.Block.{most_records}
@@ -18,11 +18,11 @@ use Rattle.recorder.specs.Tape.{by_line, records, in_blocks, tape, Recording, re
 abbrev on_tape : List (List ℕ) → Turned Recording → List ℕ
 on_tape ls t = t.text ++ in_blocks t.state.number t.state.begun (records ls t.state.kernel)
 
-one_turn : (ls : List (List ℕ)) (l : Line) (s : Recording)
+one_turn : (ls : List (List ℕ)) (l : Option Verb) (s : Recording)
     → on_tape ls (recording l s) ≡ in_blocks s.number s.begun ((by_line l s.kernel).records ++ records ls (by_line l s.kernel).kernel)
 unfolding in_blocks
-one_turn ls NoCall s = refl
-one_turn ls (Asks v) s =
+one_turn ls None s = refl
+one_turn ls (Some v) s =
     let k = (outcome (verb_of v) s.kernel).kernel in
     let r = record_of (verb_of v) s.kernel in
     either (λ (t : Turned Recording). on_tape ls t ≡ in_blocks s.number s.begun (r ∷ records ls k)) (eqb (length s.begun + 1) most_records)

@@ -1,10 +1,9 @@
 -- The tape of a script: a function of the bytes that are read. Assumes nothing.
-use Rattle.std.specs.Prelude.{cond, List, [], ◌∷◌, ◌++◌, ℕ, ◌+◌, ◌%◌, eqb, length}
+use Rattle.std.specs.Prelude.{cond, Option, Some, None, List, [], ◌∷◌, ◌++◌, ℕ, ◌+◌, ◌%◌, eqb, length}
 use Rattle.kernel.specs.Kernel.{Kernel}
 use Rattle.kernel.specs.Fresh.{fresh}
+use Rattle.verbs.specs.declared.Verb.{Verb}
 use Rattle.verbs.specs.Verbs.{verb_of}
-use Rattle.language.specs.declared.Line.{Line}
-use Rattle.language.specs.declared.Line.TheVariants.{NoCall, Asks}
 use Rattle.language.specs.Meaning.{meaning}
 use Rattle.pieces.specs.Program.{lines, pieces, Turned, Program}
 use Rattle.tape.specs.declared.Record.{Record}
@@ -18,9 +17,9 @@ pub record Made : Type 0 where
   pub kernel : Kernel
   pub records : List Record
 
-abbrev pub by_line : Line → Kernel → Made
-by_line NoCall k = record { kernel = k; records = [] }
-by_line (Asks v) k = record { kernel = (outcome (verb_of v) k).kernel; records = record_of (verb_of v) k ∷ [] }
+abbrev pub by_line : Option Verb → Kernel → Made
+by_line None k = record { kernel = k; records = [] }
+by_line (Some v) k = record { kernel = (outcome (verb_of v) k).kernel; records = record_of (verb_of v) k ∷ [] }
 
 -- The records of lines, one behind the other.
 unfoldable pub records : List (List ℕ) → Kernel → List Record
@@ -65,9 +64,9 @@ more_recorded k begun number r =
     (record { state = record { kernel = k; begun = []; number = next number }; text = written number (begun ++ (r ∷ [])) })
     (record { state = record { kernel = k; begun = begun ++ (r ∷ []); number = number }; text = [] })
 
-abbrev pub recording : Line → Recording → Turned Recording
-recording NoCall s = record { state = s; text = [] }
-recording (Asks v) s = more_recorded (outcome (verb_of v) s.kernel).kernel s.begun s.number (record_of (verb_of v) s.kernel)
+abbrev pub recording : Option Verb → Recording → Turned Recording
+recording None s = record { state = s; text = [] }
+recording (Some v) s = more_recorded (outcome (verb_of v) s.kernel).kernel s.begun s.number (record_of (verb_of v) s.kernel)
 
 unfoldable pub turn : List ℕ → Recording → Turned Recording
 turn line s = recording (meaning line) s

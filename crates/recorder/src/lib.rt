@@ -12,7 +12,7 @@ ghost use Rattle.text.specs.Text.{Continued};
 ghost use Rattle.recorder.specs.Keeps.{Kept, Ready, Keeps, Recorded};
 
 use kernel::State;
-use language::Line;
+use pieces::Turned;
 use tape::{MOST_RECORDS, Record};
 
 // The block that is begun: how many records it has, and its number.
@@ -22,18 +22,11 @@ pub struct Begun {
     pub number: u32,
 }
 
-// Where a line leads: the block that is begun then, and how much is printed.
-#[derive(Clone, Copy)]
-pub struct Turned {
-    pub at: Begun,
-    pub printed: usize,
-}
-
 // Behind the last number of 4 bytes comes 0.
 pub fn next(number: u32) -> u32
     ensures { result ≡ Tape.next number }
 {
-    if number < u32::MAX { number + 1 } else { 0 }
+    number.wrapping_add(1)
 }
 
 // The block is closed, and put on the paper.
@@ -48,7 +41,7 @@ fn out(block: &mut [u8], at: Begun, paper: &mut [u8], printed: usize) -> usize
 }
 
 // A record more. A block that is full goes out.
-fn keep(block: &mut [u8], at: Begun, r: Record, paper: &mut [u8], printed: usize) -> Turned
+fn keep(block: &mut [u8], at: Begun, r: Record, paper: &mut [u8], printed: usize) -> Turned<Begun>
     requires block_size { length block.old ≡ block_size }
     requires not_full { at.count < most_records }
     requires room { printed + longest ≤ length paper.old }
@@ -80,15 +73,15 @@ pub fn line(
     at: Begun,
     paper: &mut [u8],
     printed: usize,
-) -> Turned
+) -> Turned<Begun>
     requires ready { Ready (record { words = w.old; block = block.old; at = at }) }
     requires room { printed + longest ≤ length paper.old }
     ensures ready { Ready (record { words = w.new; block = block.new; at = result.at }) }
     ensures taken { Taken recorder Kept Keeps line.now (record { words = w.old; block = block.old; at = at }) (record { words = w.new; block = block.new; at = result.at }) paper.old printed paper.new result.printed }
 {
     match language::read(line) {
-        Line::NoCall => Turned { at, printed },
-        Line::Asks(asked) => {
+        None => Turned { at, printed },
+        Some(asked) => {
             let answer = verbs::make_known(w, asked);
             let r = records::recorded(asked, answer, words::running(w), words::clock(w));
             keep(block, at, r, paper, printed)

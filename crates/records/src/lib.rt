@@ -52,10 +52,11 @@ fn with(verb: u8, first: u64) -> Numbers
 }
 
 // A number above 4,294,967,295 is recorded as that.
+#[tactic(auto, unfolding(crate::specs::Records::cut))]
 fn cut(n: u64) -> u32
     ensures { result ≡ Records.cut n }
 {
-    if n < 4294967296 { n as u32 } else { u32::MAX }
+    u32::try_from(n).unwrap_or(u32::MAX)
 }
 
 // The record of a call with its answer, and the running task and the clock behind it.

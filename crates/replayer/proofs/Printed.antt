@@ -13,6 +13,7 @@ use Rattle.tape.specs.declared.Record.{Record}
 use Rattle.tape.specs.Reader.{records, reading}
 use Rattle.records.specs.Records.{outcome, asked}
 use Rattle.recorder.specs.Tape.{next}
+use Rattle.replayer.specs.declared.Course.TheVariants.{GoesOn}
 use Rattle.replayer.specs.declared.Replayed.{Replayed}
 use Rattle.replayer.specs.Replay.{in_turn, told, differs, replayed, Replaying, stopped, run, turn, verdict, replayer}
 
@@ -20,12 +21,14 @@ use Rattle.replayer.specs.Replay.{in_turn, told, differs, replayed, Replaying, s
 stays : (bs : List (List ℕ)) (k : Kernel) (a : Replayed) (found : Bool)
     → prints replayer bs (record { kernel = k; at = stopped a found }) ≡ verdict (cond found (some a.index) none)
 unfolding prints turn
-stays [] k a found = refl
-stays (b ∷ bs) k a found = stays bs k a found
+stays [] k a true = refl
+stays [] k a false = refl
+stays (b ∷ bs) k a true = stays bs k a true
+stays (b ∷ bs) k a false = stays bs k a false
 
 -- The replay awaits the block of this number, or is in it; i answers were the same.
 abbrev going : Kernel → ℕ → ℕ → Replaying
-going k number i = record { kernel = k; at = record { number = number; index = i; going = true; found = false } }
+going k number i = record { kernel = k; at = record { number = number; index = i; course = GoesOn } }
 
 -- What these blocks print from there on is the verdict on their records.
 abbrev Print : List (List ℕ) → Type 0

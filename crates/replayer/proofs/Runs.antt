@@ -19,13 +19,14 @@ use Rattle.tape.specs.Reader.{record_of, records_of, nth}
 use Rattle.records.specs.Records.{asked}
 use Rattle.records.proofs.Made.{Made}
 use Rattle.recorder.specs.Tape.{next}
+use Rattle.replayer.specs.declared.Course.TheVariants.{GoesOn}
 use Rattle.replayer.specs.declared.Replayed.{Replayed}
 use Rattle.replayer.specs.Replay.{Replaying, run, replaying, stopped}
 use Rattle.replayer.proofs.Same.{one_number}
 
 -- It goes on with the block of this number, and so many answers were the same.
 abbrev pub ready : ℕ → ℕ → Replayed
-ready number index = record { number = number; index = index; going = true; found = false }
+ready number index = record { number = number; index = index; course = GoesOn }
 
 -- A block is run so whatever the replay's marks were.
 unmarked : (rs : List Record) (k : Kernel) (at : Replayed) → run rs (record { kernel = k; at = at }) ≡ run rs (record { kernel = k; at = ready at.number at.index })

@@ -1,5 +1,5 @@
 -- The replay of a tape on a fresh kernel, up to the first refused or out-of-turn block. Assumes nothing.
-use Rattle.std.specs.Prelude.{Bool, true, false, cond, List, [], ◌∷◌, ◌++◌, ◌≡◌, ℕ, suc, eqb}
+use Rattle.std.specs.Prelude.{Ok, Err, Bool, true, false, cond, List, [], ◌∷◌, ◌++◌, ◌≡◌, ℕ, suc, eqb}
 use Rattle.std.proofs.Math.Option.{Option, none, some}
 use Rattle.kernel.specs.Answer.{same_number}
 use Rattle.kernel.specs.Kernel.{Kernel}
@@ -8,19 +8,19 @@ use Rattle.kernel.specs.Seen.{seen}
 use Rattle.text.specs.Text.{bytes, decimal}
 use Rattle.pieces.specs.Program.{blocks, pieces, next_index, Turned, Program}
 use Rattle.tape.specs.declared.Record.{Record}
-use Rattle.tape.specs.declared.Reading.{Reading}
-use Rattle.tape.specs.declared.Reading.TheVariants.{Refused, Accepted}
-use Rattle.tape.specs.Reader.{records, reading}
+use Rattle.tape.specs.Reader.{Reading, records, reading}
 use Rattle.records.specs.Records.{outcome, asked}
 use Rattle.recorder.specs.Tape.{next}
+use Rattle.replayer.specs.declared.Course.{Course}
+use Rattle.replayer.specs.declared.Course.TheVariants.{GoesOn, Stopped, Differed}
 use Rattle.replayer.specs.declared.Replayed.{Replayed}
 
 -- ---- what a replay finds
 
 -- Blocks are in turn where their numbers are 0, 1, 2, ..: this one is accepted, and has this number.
 abbrev pub in_turn : ℕ → Reading → Bool
-in_turn number (Refused f) = false
-in_turn number (Accepted m n) = eqb m number
+in_turn number (Err f) = false
+in_turn number (Ok a) = eqb a.number number
 
 -- The records of blocks from this number on, up to the first that is refused or out of turn.
 unfoldable pub told : ℕ → List (List ℕ) → List Record
@@ -56,23 +56,34 @@ pub record Replaying : Type 0 where
   pub kernel : Kernel
   pub at : Replayed
 
+-- Whether it goes on, and whether an answer differed.
+abbrev pub going : Course → Bool
+going GoesOn = true
+going Stopped = false
+going Differed = false
+
+abbrev pub found : Course → Bool
+found GoesOn = false
+found Stopped = false
+found Differed = true
+
 -- It goes no further.
 abbrev pub stopped : Replayed → Bool → Replayed
-stopped a found = record { number = a.number; index = a.index; going = false; found = found }
+stopped a differs = record { number = a.number; index = a.index; course = cond differs Differed Stopped }
 
 -- The records of a block; behind them the next block is awaited.
 unfoldable pub run : List Record → Replaying → Replaying
-run [] s = record { kernel = s.kernel; at = record { number = next s.at.number; index = s.at.index; going = true; found = false } }
+run [] s = record { kernel = s.kernel; at = record { number = next s.at.number; index = s.at.index; course = GoesOn } }
 run (r ∷ rs) s =
     let o = outcome (asked r) s.kernel in
     cond (same_number o.answer.number r.answer)
-    (run rs (record { kernel = o.kernel; at = record { number = s.at.number; index = next_index s.at.index; going = true; found = false } }))
+    (run rs (record { kernel = o.kernel; at = record { number = s.at.number; index = next_index s.at.index; course = GoesOn } }))
     (record { kernel = o.kernel; at = stopped s.at true })
 
 unfoldable pub turn : List ℕ → Replaying → Turned Replaying
 turn b s =
     record {
-      state = cond s.at.going
+      state = cond (going s.at.course)
           (cond (in_turn s.at.number (reading b)) (run (records b) s) (record { kernel = s.kernel; at = stopped s.at false }))
           s;
       text = [];
@@ -90,9 +101,9 @@ replayer =
       State = Replaying;
       cut = blocks;
       title = [];
-      start = record { kernel = fresh; at = record { number = 0; index = 0; going = true; found = false } };
+      start = record { kernel = fresh; at = record { number = 0; index = 0; course = GoesOn } };
       turn = turn;
-      finish = λ s. verdict (cond s.at.found (some s.at.index) none);
+      finish = λ s. verdict (cond (found s.at.course) (some s.at.index) none);
     }
 
 -- ---- the code's side

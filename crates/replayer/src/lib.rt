@@ -1,7 +1,7 @@
 // The replay: the calls of a tape's records are made again, and the answers compared.
 #![tactic(auto)]
 
-ghost use Rattle.std.specs.Prelude.{◌≡◌, List, ℕ, ◌+◌, ◌≤◌, length, drop};
+ghost use Rattle.std.specs.Prelude.{◌≡◌, false, List, ℕ, ◌+◌, ◌≤◌, length, drop};
 ghost use Rattle.kernel.specs.Sound.{Sound};
 ghost use Rattle.pieces.specs.Program.{longest};
 ghost use Rattle.pieces.specs.Reads.{Finished};
@@ -11,25 +11,29 @@ ghost use Rattle.replayer.specs.Replay as Replay;
 ghost use Rattle.replayer.specs.Replay.{replayer, replaying, Kept, Keeps};
 
 use kernel::State;
-use tape::Reading;
 
-// Where a replay stands: the number of the block that is awaited, how many answers were the same, whether it goes on, and whether one differed.
+// A replay goes on, or is stopped by a block or by an answer that differed.
+#[derive(Clone, Copy, Debug, PartialEq, Eq)]
+pub enum Course {
+    GoesOn,
+    Stopped,
+    Differed,
+}
+
+// Where a replay stands: the number of the block that is awaited, how many answers were the same, and whether it goes on.
 #[derive(Clone, Copy)]
 pub struct Replayed {
     pub number: u32,
     pub index: u64,
-    pub going: bool,
-    pub found: bool,
+    pub course: Course,
 }
 
-fn stopped(at: Replayed, found: bool) -> Replayed
-    ensures { result ≡ Replay.stopped at found }
+fn stopped(at: Replayed) -> Replayed
+    ensures { result ≡ Replay.stopped at false }
 {
     Replayed {
-        number: at.number,
-        index: at.index,
-        going: false,
-        found,
+        course: Course::Stopped,
+        ..at
     }
 }
 
@@ -42,26 +46,22 @@ fn run(w: &mut [u32; State::WORDS], block: &[u8], count: usize, at: Replayed) ->
     ensures result_after { replaying w.new result ≡ Replay.run (records_of count (drop first_at block.now)) (replaying w.old at) }
 {
     let mut index = at.index;
-    let mut i: usize = 0;
-    while i < count {
+    for i in 0..count {
         let r = tape::nth(block, i);
         let answer = verbs::make_known(w, records::asked(r));
         if text::number_of(answer) != r.answer {
             return Replayed {
                 number: at.number,
                 index,
-                going: false,
-                found: true,
+                course: Course::Differed,
             };
         }
         index = pieces::next_index(index);
-        i += 1;
     }
     Replayed {
         number: recorder::next(at.number),
         index,
-        going: true,
-        found: false,
+        course: Course::GoesOn,
     }
 }
 
@@ -71,16 +71,16 @@ pub fn block(w: &mut [u32; State::WORDS], block: &[u8], at: Replayed) -> Replaye
     ensures sound { Sound w.new }
     ensures result_after { replaying w.new result ≡ (Replay.turn block.now (replaying w.old at)).state }
 {
-    if !at.going {
+    let Course::GoesOn = at.course else {
         return at;
-    }
+    };
     match tape::read(block) {
-        Reading::Refused(_) => stopped(at, false),
-        Reading::Accepted(number, count) => {
-            if number != at.number {
-                return stopped(at, false);
+        Err(_) => stopped(at),
+        Ok(accepted) => {
+            if accepted.number != at.number {
+                return stopped(at);
             }
-            run(w, block, count, at)
+            run(w, block, accepted.count, at)
         }
     }
 }
@@ -90,9 +90,11 @@ pub fn finish(at: Replayed, paper: &mut [u8], printed: usize) -> usize
     requires { printed + longest ≤ length paper.old }
     ensures { (w : List ℕ) → Finished replayer Kept Keeps (record { words = w; at = at }) paper.old printed paper.new result }
 {
-    if at.found {
-        let n = text::decimal(paper, printed, at.index);
-        return text::put(paper, n, b"\n");
+    match at.course {
+        Course::Differed => {
+            let n = text::decimal(paper, printed, at.index);
+            text::put(paper, n, b"\n")
+        }
+        Course::GoesOn | Course::Stopped => text::put(paper, printed, b"none\n"),
     }
-    text::put(paper, printed, b"none\n")
 }

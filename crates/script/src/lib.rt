@@ -9,7 +9,6 @@ ghost use Rattle.script.specs.Output as Output;
 ghost use Rattle.script.specs.Step.{told, Put, Shown};
 
 use kernel::{Answer, State};
-use language::Line;
 
 // The first line printed, at the start of the paper.
 pub fn title(paper: &mut [u8]) -> usize
@@ -43,8 +42,8 @@ pub fn step(w: &mut [u32; State::WORDS], line: &[u8], paper: &mut [u8], at: usiz
     ensures { Shown w.old w.new paper.old at paper.new result (call_of (meaning line.now)) }
 {
     match language::read(line) {
-        Line::NoCall => unknown(paper, at),
-        Line::Asks(asked) => {
+        None => unknown(paper, at),
+        Some(asked) => {
             let answer = verbs::make(w, asked);
             tell(w, answer, paper, at)
         }

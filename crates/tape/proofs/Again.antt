@@ -9,9 +9,8 @@ use lib.ListN.{length, take, drop, replicate, length-drop}
 use borrow.Author.Tests.{eqb-true}
 use Rattle.big_endian.specs.BigEndian.{part}
 use Rattle.big_endian.proofs.Bytes.{part_length, parts_join, drop_low, part_fits, part_said, said_before}
-use Rattle.tape.specs.declared.Reading.TheVariants.{Accepted}
 use Rattle.tape.specs.Block.{block_size, count_at, first_at, record_size, check_at, record_at, all_bytes, unchecked, written}
-use Rattle.tape.specs.Reader.{count_of, records, zeros, unused, reading}
+use Rattle.tape.specs.Reader.{count_of, records, zeros, unused, accepts, reading}
 use Rattle.tape.specs.Form.{Bytes, Recorded}
 use Rattle.tape.proofs.Fields.{records_length, records_again, records_fit}
 use Rattle.tape.proofs.Named.{Passes, passes}
@@ -49,14 +48,14 @@ module _ (b : List ℕ) (number n : ℕ) (low : Bytes b) (p : Passes b number n)
       (said_before b low count_at 2 (omega arith) 504 body))
 
 -- **same_bytes_again**: an accepted block written again is the same bytes.
-pub same_bytes_again : (b : List ℕ) (number n : ℕ) → Bytes b → reading b ≡ Accepted number n → written number (records b) ≡ take block_size b
+pub same_bytes_again : (b : List ℕ) (number n : ℕ) → Bytes b → reading b ≡ accepts number n → written number (records b) ≡ take block_size b
 unfolding written
 same_bytes_again b number n low e =
     let p = passes b number n e in
     rw (front b number n low p, ← p.checked, part_said b low check_at 2 (omega arith)) (parts_join 0 check_at 2 b)
 
 -- **accepted_recorded**: an accepted block is one that the recorder could have written.
-pub accepted_recorded : (b : List ℕ) (number n : ℕ) → Bytes b → reading b ≡ Accepted number n → Recorded number (records b) × (length (records b) ≡ n)
+pub accepted_recorded : (b : List ℕ) (number n : ℕ) → Bytes b → reading b ≡ accepts number n → Recorded number (records b) × (length (records b) ≡ n)
 accepted_recorded b number n low e =
     let p = passes b number n e in
     let size = counted b number n low p in (

@@ -9,9 +9,8 @@ use lib.Seq.{take_at, drop_at, drop-drop}
 use Rattle.big_endian.specs.BigEndian.{bytes, part}
 use Rattle.big_endian.proofs.Bytes.{Reads, reads}
 use Rattle.tape.specs.declared.Record.{Record}
-use Rattle.tape.specs.declared.Reading.TheVariants.{Accepted}
 use Rattle.tape.specs.Block.{count_at, first_at, record_size, check_at, record_at, all_bytes, check, unchecked, written}
-use Rattle.tape.specs.Reader.{records, records_of, known, spare, every, zeros, unused, reading}
+use Rattle.tape.specs.Reader.{records, records_of, known, spare, every, zeros, unused, accepts, reading}
 use Rattle.tape.specs.Form.{Recorded}
 use Rattle.tape.proofs.Fields.{records_back, every_holds}
 use Rattle.tape.proofs.Held.{unchecked_length, written_length}
@@ -77,5 +76,5 @@ module _ (number : ℕ) (rs : List Record) (more : List ℕ) (k : Recorded numbe
       }
 
 -- **read-back**: what the recorder writes reads back equal, whatever stands behind it.
-pub read_back : (number : ℕ) (rs : List Record) (more : List ℕ) → Recorded number rs → (reading (written number rs ++ more) ≡ Accepted number (length rs)) × (records (written number rs ++ more) ≡ rs)
+pub read_back : (number : ℕ) (rs : List Record) (more : List ℕ) → Recorded number rs → (reading (written number rs ++ more) ≡ accepts number (length rs)) × (records (written number rs ++ more) ≡ rs)
 read_back number rs more k = (accepted (written number rs ++ more) number (length rs) (passes number rs more k), same_records number rs more k)

@@ -1,12 +1,12 @@
 -- What a block says, and the reader's tests in the order in which it refuses. Assumes nothing.
-use Rattle.std.specs.Prelude.{Bool, true, cond, ◌&&◌, ◌||◌, List, [], ◌∷◌, ℕ, zero, suc, ◌-◌, eqb, leb, ltb, ℤ, pos, negsuc, length, get_or, take, drop}
+use Rattle.std.specs.Prelude.{Bool, true, cond, ◌&&◌, ◌||◌, Result, Ok, Err, List, [], ◌∷◌, ℕ, zero, suc, ◌-◌, eqb, leb, ltb, ℤ, pos, negsuc, length, get_or, take, drop}
+use Rattle.std.specs.List.{list_all}
 use Rattle.big_endian.specs.BigEndian.{value, part}
 use Rattle.kernel.specs.Sizes.{within}
 use Rattle.tape.specs.declared.Record.{Record}
 use Rattle.tape.specs.declared.Fault.{Fault}
 use Rattle.tape.specs.declared.Fault.TheVariants.{Short, Check, Count, Verb, Spare}
-use Rattle.tape.specs.declared.Reading.{Reading}
-use Rattle.tape.specs.declared.Reading.TheVariants.{Refused, Accepted}
+use Rattle.tape.specs.declared.Accepted.{Accepted}
 use Rattle.tape.specs.Block.{block_size, count_at, first_at, record_size, most_records, check_at, record_at, has_place, four_bytes, check}
 
 -- ---- what stands in a block
@@ -71,8 +71,7 @@ every f [] = true
 every f (r ∷ rs) = f r && every f rs
 
 unfoldable pub zeros : List ℕ → Bool
-zeros [] = true
-zeros (b ∷ bs) = eqb b 0 && zeros bs
+zeros bs = list_all (λ b. eqb b 0) bs
 
 -- Unused bytes: those behind the records, up to 509.
 abbrev pub unused : List ℕ → List ℕ
@@ -96,11 +95,18 @@ tests b =
     ∷ test Spare (every spare (records b) && zeros (unused b))
     ∷ []
 
+-- What the reader makes of a block: a refusal, or its number and how many records it has.
+abbrev pub Reading : Type 0
+Reading = Result Accepted Fault
+
+abbrev pub accepts : ℕ → ℕ → Reading
+accepts number n = Ok (record { number = number; count = n })
+
 -- The first that fails names the refusal; else it is accepted.
 abbrev pub judged : List Test → Reading → Reading
 judged [] accepted = accepted
-judged (t ∷ ts) accepted = cond t.holds (judged ts accepted) (Refused t.name)
+judged (t ∷ ts) accepted = cond t.holds (judged ts accepted) (Err t.name)
 
 -- What the reader makes of bytes: a block is their first 512.
 unfoldable pub reading : List ℕ → Reading
-reading b = judged (tests b) (Accepted (number_of b) (count_of b))
+reading b = judged (tests b) (accepts (number_of b) (count_of b))

@@ -23,7 +23,7 @@ pub const MOST_RECORDS: usize = 31;
 const CHECK_AT: usize = 510;
 
 // A call on the tape: its verb's number, two arguments, its answer, and who runs and the clock's remainder behind it.
-#[derive(Clone, Copy)]
+#[derive(Clone, Copy, Default)]
 pub struct Record {
     pub verb: u8,
     pub first: u32,
@@ -34,7 +34,7 @@ pub struct Record {
 }
 
 // Why a block is refused.
-#[derive(Clone, Copy)]
+#[derive(Clone, Copy, Debug, PartialEq, Eq)]
 pub enum Fault {
     Short,
     Check,
@@ -43,11 +43,11 @@ pub enum Fault {
     Spare,
 }
 
-// What the reader makes of a block: a refusal, or its number and how many records it has.
+// A block that is accepted: its number, and how many records it has.
 #[derive(Clone, Copy)]
-pub enum Reading {
-    Refused(Fault),
-    Accepted(u32, usize),
+pub struct Accepted {
+    pub number: u32,
+    pub count: usize,
 }
 
 // ---- numbers
@@ -79,11 +79,10 @@ fn check(block: &[u8]) -> u32
     requires { check_at ≤ length block.now }
     ensures { result ≡ Block.check (take check_at block.now) }
 {
+    let bytes = &block[..CHECK_AT];
     let mut sum: u32 = 0;
-    let mut i: usize = 0;
-    while i < CHECK_AT {
-        sum += (i as u32 + 1) * block[i] as u32;
-        i += 1;
+    for (i, b) in bytes.iter().enumerate() {
+        sum += (i as u32 + 1) * *b as u32;
     }
     sum % 65521
 }
@@ -107,10 +106,7 @@ pub fn put(block: &mut [u8], i: usize, r: Record) -> bool
     ensures value { result ≡ has_place block.old i }
     ensures block_after { block.new ≡ placed block.old i r }
 {
-    if block.len() < BLOCK {
-        return false;
-    }
-    if i >= MOST_RECORDS {
+    if block.len() < BLOCK || i >= MOST_RECORDS {
         return false;
     }
     write(block, FIRST_AT + RECORD * i, r);
@@ -123,13 +119,7 @@ pub fn close(block: &mut [u8], number: u32, count: usize) -> bool
     ensures value { result ≡ may_close block.old count }
     ensures block_after { block.new ≡ closed block.old number count }
 {
-    if block.len() < BLOCK {
-        return false;
-    }
-    if count < 1 {
-        return false;
-    }
-    if count > MOST_RECORDS {
+    if block.len() < BLOCK || count < 1 || count > MOST_RECORDS {
         return false;
     }
     big_endian::write(block, 0, 4, number);
@@ -162,35 +152,16 @@ fn record_at(block: &[u8], at: usize) -> Record
 pub fn nth(block: &[u8], i: usize) -> Record
     ensures { result ≡ Reader.nth block.now i }
 {
-    if block.len() < BLOCK {
-        return blank();
-    }
-    if i >= MOST_RECORDS {
-        return blank();
+    if block.len() < BLOCK || i >= MOST_RECORDS {
+        return Record::default();
     }
     record_at(block, FIRST_AT + RECORD * i)
-}
-
-fn blank() -> Record
-    ensures { result ≡ Reader.blank }
-{
-    Record {
-        verb: 0,
-        first: 0,
-        second: 0,
-        answer: 0,
-        running: 0,
-        clock: 0,
-    }
 }
 
 fn known(r: Record) -> bool
     ensures { result ≡ Reader.known r }
 {
-    if r.verb < 1 {
-        return false;
-    }
-    r.verb <= 12
+    (1..=12).contains(&r.verb)
 }
 
 // How many arguments a verb has.
@@ -199,98 +170,65 @@ const ARITIES: [u8; 12] = [0, 2, 1, 1, 0, 0, 0, 1, 1, 1, 1, 1];
 fn arity(verb: u8) -> u8
     ensures { result ≡ get_or arities (verb - 1) 0 }
 {
-    if verb < 1 {
-        return 0;
-    }
-    if verb > 12 {
-        return 0;
-    }
-    ARITIES[verb as usize - 1]
+    let place = usize::from(verb.saturating_sub(1));
+    ARITIES.get(place).copied().unwrap_or(0)
 }
 
 fn spare(r: Record) -> bool
     ensures { result ≡ Reader.spare r }
 {
     let n = arity(r.verb);
-    if n < 1 && r.first != 0 {
-        return false;
-    }
-    if n < 2 && r.second != 0 {
-        return false;
-    }
-    true
+    (n >= 1 || r.first == 0) && (n >= 2 || r.second == 0)
 }
 
 fn all_known(block: &[u8], count: usize) -> bool
     requires { record_at count ≤ length block.now }
     ensures { result ≡ every Reader.known (records_of count (drop first_at block.now)) }
 {
-    let mut i: usize = 0;
-    while i < count {
-        if !known(record_at(block, FIRST_AT + RECORD * i)) {
-            return false;
-        }
-        i += 1;
-    }
-    true
+    (0..count).all(|i| known(record_at(block, FIRST_AT + RECORD * i)))
 }
 
 fn all_spare(block: &[u8], count: usize) -> bool
     requires { record_at count ≤ length block.now }
     ensures { result ≡ every Reader.spare (records_of count (drop first_at block.now)) }
 {
-    let mut i: usize = 0;
-    while i < count {
-        if !spare(record_at(block, FIRST_AT + RECORD * i)) {
-            return false;
-        }
-        i += 1;
-    }
-    true
+    (0..count).all(|i| spare(record_at(block, FIRST_AT + RECORD * i)))
 }
 
-// Whether n bytes from `at` on are 0.
-fn zeros(block: &[u8], at: usize, n: usize) -> bool
-    requires { at + n ≤ length block.now }
-    ensures { result ≡ Reader.zeros (part at n block.now) }
+#[tactic(auto, unfolding(crate::specs::Reader::zeros))]
+fn zeros(bytes: &[u8]) -> bool
+    ensures { result ≡ Reader.zeros bytes.now }
 {
-    let mut i: usize = 0;
-    while i < n {
-        if block[at + i] != 0 {
-            return false;
-        }
-        i += 1;
-    }
-    true
+    bytes.iter().all(|b| *b == 0)
 }
 
 // Reads a block, the first 512 of these bytes, or refuses it by the first test that fails.
 #[tactic(auto, unfolding(crate::specs::Reader::reading))]
-pub fn read(block: &[u8]) -> Reading
+pub fn read(block: &[u8]) -> Result<Accepted, Fault>
     ensures { result ≡ Reader.reading block.now }
 {
     if block.len() < BLOCK {
-        return Reading::Refused(Fault::Short);
+        return Err(Fault::Short);
     }
     if big_endian::value(block, CHECK_AT, 2) != check(block) {
-        return Reading::Refused(Fault::Check);
+        return Err(Fault::Check);
     }
     let count = big_endian::value(block, COUNT_AT, 2) as usize;
-    if count < 1 {
-        return Reading::Refused(Fault::Count);
-    }
-    if count > MOST_RECORDS {
-        return Reading::Refused(Fault::Count);
+    if count < 1 || count > MOST_RECORDS {
+        return Err(Fault::Count);
     }
     if !all_known(block, count) {
-        return Reading::Refused(Fault::Verb);
+        return Err(Fault::Verb);
     }
     if !all_spare(block, count) {
-        return Reading::Refused(Fault::Spare);
+        return Err(Fault::Spare);
     }
     let used = FIRST_AT + RECORD * count;
-    if !zeros(block, used, CHECK_AT - used) {
-        return Reading::Refused(Fault::Spare);
+    if !zeros(&block[used..CHECK_AT]) {
+        return Err(Fault::Spare);
     }
-    Reading::Accepted(big_endian::value(block, 0, 4), count)
+    Ok(Accepted {
+        number: big_endian::value(block, 0, 4),
+        count,
+    })
 }

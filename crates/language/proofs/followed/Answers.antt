@@ -1,17 +1,14 @@
 -- The verb hard, or another. Assumes nothing.
 use Rattle.std.proofs.Common.{◌∙◌}
-use Rattle.kernel.specs.Channels.{same_bytes}
-use Rattle.language.proofs.Words.{differ}
+use Rattle.text.specs.Text.{bytes}
+use Rattle.language.proofs.Words.{told}
 use Rattle.language.proofs.followed.Goals as goal
 
-pub returns-then-same : goal.returns-then-same
-unfolding same_bytes
-returns-then-same c = c.hard.ensures ∙ rw (c.same.ensures.0 c.if-same.true)
+pub returns-then-eq : goal.returns-then-eq
+returns-then-eq c = c.hard.ensures ∙ rw (told c.args.verb.now (bytes "hard") _ c.eq.ensures c.as_slice.ensures c.if-eq.true)
 
-pub returns-in-Is : goal.returns-in-Is
-unfolding same_bytes
-returns-in-Is c = rw (c.with_one.ensures, differ c.same.ensures c.if-same.false, ← c.value.ensures, c.in-Is.is)
+pub returns-in_err-value : goal.returns-in_err-value
+returns-in_err-value c = rw (told c.args.verb.now (bytes "hard") _ c.eq.ensures c.as_slice.ensures c.if-eq.false, ← c.in_err-value.ensures) c.from_residual.ensures
 
-pub returns-in-NoNumber : goal.returns-in-NoNumber
-unfolding same_bytes
-returns-in-NoNumber c = rw (differ c.same.ensures c.if-same.false, ← c.value.ensures, c.in-NoNumber.is)
+pub returns : goal.returns
+returns c = c.with_one.ensures ∙ rw (told c.args.verb.now (bytes "hard") _ c.eq.ensures c.as_slice.ensures c.if-eq.false, ← c.in_ok-value.ensures)

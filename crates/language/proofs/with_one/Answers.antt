@@ -1,46 +1,10 @@
 -- The verbs that a number follows: one of them, or none. Assumes nothing.
+use Rattle.std.proofs.Common.{rules}
 use Rattle.kernel.specs.Channels.{same_bytes}
 use Rattle.language.specs.Meaning.{sought}
-use Rattle.language.proofs.Words.{differ}
+use Rattle.language.proofs.Words.{sought_found}
 use Rattle.language.proofs.with_one.Goals as goal
-
-pub returns-then-same : goal.returns-then-same
-unfolding sought same_bytes
-returns-then-same c = rw (c.same.ensures.0 c.if-same.true)
-
-pub returns-then-same-2 : goal.returns-then-same-2
-unfolding sought same_bytes
-returns-then-same-2 c = rw (c.same-2.ensures.0 c.if-same-2.true)
-
-pub returns-then-same-3 : goal.returns-then-same-3
-unfolding sought same_bytes
-returns-then-same-3 c = rw (c.same-3.ensures.0 c.if-same-3.true)
-
-pub returns-then-same-4 : goal.returns-then-same-4
-unfolding sought same_bytes
-returns-then-same-4 c = rw (c.same-4.ensures.0 c.if-same-4.true)
-
-pub returns-then-same-5 : goal.returns-then-same-5
-unfolding sought same_bytes
-returns-then-same-5 c = rw (c.same-5.ensures.0 c.if-same-5.true)
-
-pub returns-then-same-6 : goal.returns-then-same-6
-unfolding sought same_bytes
-returns-then-same-6 c = rw (c.same-6.ensures.0 c.if-same-6.true)
-
-pub returns-then-same-7 : goal.returns-then-same-7
-unfolding sought same_bytes
-returns-then-same-7 c = rw (c.same-7.ensures.0 c.if-same-7.true)
 
 pub returns : goal.returns
 unfolding sought same_bytes
-returns c =
-    rw (
-      differ c.same.ensures c.if-same.false,
-      differ c.same-2.ensures c.if-same-2.false,
-      differ c.same-3.ensures c.if-same-3.false,
-      differ c.same-4.ensures c.if-same-4.false,
-      differ c.same-5.ensures c.if-same-5.false,
-      differ c.same-6.ensures c.if-same-6.false,
-      differ c.same-7.ensures c.if-same-7.false,
-    )
+returns c = search (rules, sought_found)

@@ -1,5 +1,5 @@
 -- Byte by byte, as long as there is room. Assumes nothing.
-use Rattle.std.proofs.Common.{◌-◌, length}
+use Rattle.std.proofs.Common.{length}
 use Rattle.programs.specs.Programs.{desk}
 use Rattle.programs.proofs.Feeding.{SoFar}
 use Rattle.programs.proofs.feed.Given as goal
@@ -7,6 +7,3 @@ use Rattle.programs.proofs.feed.Given as goal
 abbrev pub invariant-loop-i : goal.invariant-loop-i
 invariant-loop-i l =
     SoFar l.p l.bytes (desk l.initial.w l.initial.block l.initial.at l.initial.piece) (length l.initial.paper) (desk l.w l.block l.at l.piece) l.paper l.printed l.i
-
-abbrev pub decreases-loop-i : goal.decreases-loop-i
-decreases-loop-i l = length l.bytes - l.i

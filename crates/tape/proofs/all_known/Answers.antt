@@ -1,12 +1,14 @@
--- A record passes or it does not, and in the end none is left. Assumes nothing.
-use Rattle.tape.proofs.Loops.{loop}
+-- The records are tested at their places. Assumes nothing.
+use Rattle.std.proofs.Common.{refl, ◌∙◌, drop, arith, rules, tests}
+use Rattle.std.proofs.lemmas.Iterator.{YieldsList-from_range}
+use Rattle.std.proofs.lemmas.Iterator.Search.{all_from_yields_List}
+use Rattle.tape.specs.Block.{record_at}
+use Rattle.tape.specs.Reader.{record_of, known}
+use Rattle.tape.proofs.Loops.{at_places}
 use Rattle.tape.proofs.all_known.Goals as goal
 
-pub returns-then-not-known : goal.returns-then-not-known
-returns-then-not-known c = search loop
-
-pub loop-i-preserved : goal.loop-i-preserved
-loop-i-preserved c = search loop
-
 pub returns : goal.returns
-returns c = search loop
+returns c =
+    all_from_yields_List (λ i. known (record_of (drop (record_at i) c.args.block.now))) _ _ c.all.result c.all.ensures.ran (YieldsList-from_range 0 c.args.count c.args.count refl (omega arith))
+    (λ x b q k. search (rules, tests))
+    ∙ at_places known c.args.block.now c.args.count 0

@@ -1,20 +1,21 @@
 -- Each summand is small, and the next byte is what is left without it. Assumes nothing.
-use Rattle.std.proofs.Common.{◌≡◌, ◌+◌, ◌-◌, ◌*◌, ◌≤◌, get_or, arith}
+use Rattle.std.proofs.Common.{◌+◌, take, drop_of_length-le, arith}
+use lib.Seq.{length-take-le}
 use Rattle.tape.specs.Block.{check_at, weighed}
 use Rattle.tape.proofs.Loops.{weighed_next, product_small}
 use Rattle.tape.proofs.check.Goals as goal
 
+pub overflow_mul-sum : goal.overflow_mul-sum
+overflow_mul-sum c = omega (arith, product_small c.args.block.now c.loop-i.i (λ j. (c.type_inv.block j).fits) c.requires c.loop-i-test.true)
+
 pub overflow_add-sum-in-loop-i : goal.overflow_add-sum-in-loop-i
-overflow_add-sum-in-loop-i c =
-    omega (arith, product_small c.loop-i.i (get_or c.args.block.now c.loop-i.i 0) (omega arith) (c.type_inv.block c.loop-i.i).fits)
+overflow_add-sum-in-loop-i c = omega (arith, length-take-le check_at c.args.block.now c.requires, product_small c.args.block.now c.loop-i.i (λ j. (c.type_inv.block j).fits) c.requires c.loop-i-test.true)
 
 pub loop-i-preserved : goal.loop-i-preserved
 loop-i-preserved c =
-    let i = c.loop-i.i in
-    let b = c.args.block.now in
-    let small : (i + 1) * get_or b i 0 ≤ 130050 = product_small i (get_or b i 0) (omega arith) (c.type_inv.block i).fits in
-    (omega arith, omega (arith, small), omega (arith, weighed_next b (i + 1) check_at i (omega arith) (omega arith)))
+    let small = product_small c.args.block.now c.loop-i.i (λ j. (c.type_inv.block j).fits) c.requires c.loop-i-test.true in
+    (omega (arith, small), omega (arith, weighed_next (take check_at c.args.block.now) (c.loop-i.i + 1) c.loop-i.i c.loop-i-test.true))
 
 pub returns : goal.returns
 unfolding weighed
-returns c = let e : check_at - c.loop-i.i ≡ 0 = omega arith in omega (arith, rw e at c.loop-i.invariant.2)
+returns c = omega (arith, rw (drop_of_length-le (take check_at c.args.block.now) {i = c.loop-i.i} c.loop-i-test.false) at c.loop-i.invariant.1)
