@@ -10,17 +10,13 @@ pub struct Controller {
     memory: [u8; State::MEMORY_SIZE],
 }
 
-fn created(s: State, priority: u64) -> State {
-    creation::create_nrt(s, priority).state
-}
-
 impl Controller {
     // The first message is put, and tasks 1 and 2, the writers, and 3 and 4, the readers, are asleep.
     pub fn new(buffers: usize) -> Controller {
         let mut memory = [0u8; State::MEMORY_SIZE];
         let mut s = State::fresh();
         for priority in (1..5).rev() {
-            s = created(s, priority);
+            s = creation::create_nrt(s, priority).state;
         }
         let open = channels::open_channel(s, 9, buffers);
         let begun = writing::begin_write(open.state, CHANNEL, &mut memory);
