@@ -6,44 +6,34 @@
 mod packed;
 mod runs;
 
-ghost use Rattle.std.specs.Prelude.{◌≤◌};
-ghost use Rattle.pace.specs.Room.{room};
+use std::io::{self, Read};
+use verbs::Verb;
 
-use packed::Packed;
-
-// Standard input.
-const STDIN: i32 = 0;
+const LONGEST_SCRIPT: u64 = 60000;
 
 const KNOWN: u64 = 1000;
 
 const TESTED: u64 = 100;
 
 // Makes the calls so often, and prints how many there are, and the check number of answers and running tasks over one run.
-fn show(order: &[u8], script: Packed, tested: bool, times: u64)
-    requires { script.count ≤ room }
-{
-    let check = runs::made(script, tested, times);
-    test_lines::write(order);
-    test_lines::number(script.count as u64);
-    test_lines::write(b" calls, ");
-    test_lines::number(times);
-    test_lines::write(b" times, check ");
-    test_lines::number(check);
-    test_lines::write(b"\n");
+fn show(rt: &impl Print, order: char, calls: &[Verb], tested: bool, times: u64) -> io::Result<()> {
+    let check = runs::made(calls, tested, times);
+    println!(rt;
+        "{order}: {} calls, {times} times, check {check}",
+        calls.len()
+    )
 }
 
-fn main() {
-    let mut order = [0u8; 1];
-    io::read_full(STDIN, &mut order);
-    let mut text = [0u8; 60000];
-    let n = io::read_full(STDIN, &mut text);
-    let script = packed::pack(&text[..n]);
-    if order[0] == b'k' {
-        show(b"k: ", script, false, KNOWN);
-        return;
-    }
-    if order[0] == b't' {
-        show(b"t: ", script, true, TESTED);
-        return;
+fn main(rt: HostRuntime) -> io::Result<()> {
+    let mut input = Vec::new(rt.alloc());
+    rt.stdin().take(1 + LONGEST_SCRIPT).read_to_end(&mut input)?;
+    let [order, script @ ..] = input.as_slice() else {
+        return Ok(());
+    };
+    let calls = packed::pack(rt.alloc(), script)?;
+    match order {
+        b'k' => show(&rt, 'k', &calls, false, KNOWN),
+        b't' => show(&rt, 't', &calls, true, TESTED),
+        _ => Ok(()),
     }
 }

@@ -1,12 +1,8 @@
 // What is timed: the calls of a script, from the fresh kernel.
-ghost use Rattle.std.specs.Prelude.{◌≤◌, ◌<◌};
 ghost use Rattle.kernel.specs.Sound.{Sound};
-ghost use Rattle.test_lines.specs.Check.{prime};
-ghost use Rattle.pace.specs.Room.{room};
 
-use crate::packed::Packed;
 use kernel::{Answer, State};
-use test_lines::folded;
+use test_lines::CheckNumber;
 use verbs::Verb;
 
 fn make(w: &mut [u32; State::WORDS], tested: bool, asked: Verb) -> Answer
@@ -19,39 +15,22 @@ fn make(w: &mut [u32; State::WORDS], tested: bool, asked: Verb) -> Answer
     verbs::make_known(w, asked)
 }
 
-// A call's answer and who runs then are folded.
-fn call(w: &mut [u32; State::WORDS], tested: bool, asked: Verb, check: u64) -> u64
-    requires sound { Sound w.old }
-    requires check_below { check < prime }
-    ensures sound { Sound w.new }
-    ensures upper_bound { result < prime }
-{
-    let answer = make(w, tested, asked);
-    folded(
-        folded(check, test_lines::of_answer(answer)),
-        w[State::RUNNING_AT],
-    )
+// One run: of each call its answer and who runs then.
+fn run(calls: &[Verb], tested: bool) -> CheckNumber {
+    let mut w = State::fresh().words;
+    let mut check = CheckNumber::new();
+    for asked in calls {
+        check = check.with_answer(make(&mut w, tested, *asked));
+        check = check.with(w[State::RUNNING_AT]);
+    }
+    check
 }
 
-// Makes the calls so often: the check number of one run. The two loops are one function, so that the calls are not copied for each run.
-pub fn made(script: Packed, tested: bool, times: u64) -> u64
-    requires { script.count ≤ room }
-{
-    let calls = script.calls;
-    let count = script.count;
-    let mut check: u64 = 0;
-    let mut left = times;
-    while left > 0 {
-        let fresh = State::fresh();
-        let mut w = fresh.words;
-        check = 0;
-        let mut i: usize = 0;
-        while i < count {
-            let asked = calls[i];
-            check = call(&mut w, tested, asked, check);
-            i += 1;
-        }
-        left -= 1;
+// Makes the calls so often: the check number of one run.
+pub fn made(calls: &[Verb], tested: bool, times: u64) -> CheckNumber {
+    let mut check = CheckNumber::new();
+    for _ in 0..times {
+        check = run(calls, tested);
     }
     check
 }

@@ -5,16 +5,18 @@ mod lives;
 mod slack;
 mod waiting;
 
-fn main() {
-    test_lines::title(b"slack before, at and after the deadline");
-    slack::asleep();
-    test_lines::title(b"tasks");
-    lives::equals();
-    lives::overrun();
-    lives::cycles();
-    lives::zombies();
-    test_lines::title(b"semaphores");
-    waiting::signals();
-    waiting::killed();
-    waiting::all();
+use std::io;
+
+fn main(rt: HostRuntime) -> io::Result<()> {
+    test_lines::title(&rt, "slack before, at and after the deadline")?;
+    slack::asleep(&rt)?;
+    test_lines::title(&rt, "tasks")?;
+    lives::equals(&rt)?;
+    lives::overrun(&rt)?;
+    lives::cycles(&rt)?;
+    lives::zombies(&rt)?;
+    test_lines::title(&rt, "semaphores")?;
+    waiting::signals(&rt)?;
+    waiting::killed(&rt)?;
+    waiting::all(&rt)
 }

@@ -1,27 +1,29 @@
 // HARD with deadline 8, asleep at clock 11: slack -3.
 use kernel::{State, TaskNo};
+use std::io;
 use test_lines::{after, ticked};
 
-fn sleeper(before: State) -> State {
+fn sleeper(rt: &impl Print, before: State) -> io::Result<State> {
     let mut s = before;
-    s = after(b"hard 8 2", creation::create_hard(s, 8, 2));
-    s = after(b"activate 1", tasks::activate(s, TaskNo(1)));
-    s = after(b"sleep", tasks::sleep(s));
-    after(b"slack 1", questions::slack(s, TaskNo(1)))
+    s = after(rt, "hard 8 2", creation::create_hard(s, 8, 2))?;
+    s = after(rt, "activate 1", tasks::activate(s, TaskNo(1)))?;
+    s = after(rt, "sleep", tasks::sleep(s))?;
+    after(rt, "slack 1", questions::slack(s, TaskNo(1)))
 }
 
 // The slack of task 1, n ticks later.
-fn later(s: State, n: usize) -> State {
-    let t = ticked(s, n);
-    after(b"slack 1", questions::slack(t, TaskNo(1)))
+fn later(rt: &impl Print, s: State, n: usize) -> io::Result<State> {
+    let t = ticked(rt, s, n)?;
+    after(rt, "slack 1", questions::slack(t, TaskNo(1)))
 }
 
-pub fn asleep() {
+pub fn asleep(rt: &impl Print) -> io::Result<()> {
     let mut s = State::fresh();
-    s = sleeper(s);
-    s = later(s, 5);
-    s = later(s, 3);
-    s = later(s, 3);
-    s = after(b"hard 1 1", creation::create_hard(s, 1, 1));
-    after(b"slack 0", questions::slack(s, TaskNo(0)));
+    s = sleeper(rt, s)?;
+    s = later(rt, s, 5)?;
+    s = later(rt, s, 3)?;
+    s = later(rt, s, 3)?;
+    s = after(rt, "hard 1 1", creation::create_hard(s, 1, 1))?;
+    after(rt, "slack 0", questions::slack(s, TaskNo(0)))?;
+    Ok(())
 }

@@ -2,168 +2,143 @@
 #![tactic(auto)]
 
 use kernel::{ChannelNo, State};
-use test_lines::{after, number, write};
+use reading::HandedBack;
+use std::{fmt, io};
+use test_lines::{Said, after};
 
-// ---- bytes, as their numbers, and n bytes x in a row as x*n
+// ---- bytes
 
-fn run(x: u8, n: u64) {
-    write(b" ");
-    number(x as u64);
-    if n > 1 {
-        write(b"*");
-        number(n);
-    }
-}
+// Each byte's number behind a space, and n bytes x in a row as x*n.
+#[derive(Clone, Copy)]
+pub struct Bytes<'a>(pub &'a [u8]);
 
-// Whether the byte at i is the last of those like it.
-fn ends(text: &[u8], i: usize) -> bool {
-    if i >= text.len() {
-        return true;
-    }
-    let next = i + 1;
-    if next >= text.len() {
-        return true;
-    }
-    text[i] != text[next]
-}
-
-pub fn bytes(text: &[u8]) {
-    if text.len() == 0 {
-        write(b" nothing");
-    }
-    let mut i: usize = 0;
-    let mut n: u64 = 0;
-    while i < text.len() {
-        n += 1;
-        if ends(text, i) {
-            run(text[i], n);
-            n = 0;
+impl fmt::Display for Bytes<'_> {
+    fn fmt<W: fmt::Write>(&self, f: &mut fmt::Formatter<W>) -> fmt::Result {
+        if self.0.is_empty() {
+            return write!(f, " nothing");
         }
-        i += 1;
+        for run in self.0.chunk_by(|x, y| x == y) {
+            match run {
+                [] => {}
+                [x] => write!(f, " {x}")?,
+                [x, ..] => write!(f, " {x}*{}", run.len())?,
+            }
+        }
+        Ok(())
     }
 }
 
 // What is in the memory.
-pub fn memory_shown(text: &[u8]) {
-    write(b"memory:");
-    bytes(text);
-    write(b"\n");
+pub fn memory_shown(rt: &impl Print, memory: &[u8]) -> io::Result<()> {
+    println!(rt; "memory:{}", Bytes(memory))
 }
 
 // What is in the memory, a line a channel.
-pub fn memory_by_channel(text: &[u8]) {
-    if text.len() == 16384 {
-        memory_shown(&text[0..4096]);
-        memory_shown(&text[4096..8192]);
-        memory_shown(&text[8192..12288]);
-        memory_shown(&text[12288..16384]);
+pub fn memory_by_channel(rt: &impl Print, memory: &[u8]) -> io::Result<()> {
+    for channel in memory.chunks(State::MEMORY_SIZE / State::CHANNELS) {
+        memory_shown(rt, channel)?;
     }
+    Ok(())
 }
 
 // ---- calls
 
-// A word and a number.
-fn with(word: &[u8], n: usize) {
-    write(word);
-    write(b" ");
-    number(n as u64);
+pub fn open(rt: &impl Print, s: State, size: usize, buffers: usize) -> io::Result<State> {
+    let reply = channels::open_channel(s, size, buffers);
+    after(rt, format_args!("open {size} {buffers}"), reply)
 }
 
-pub fn open(s: State, size: usize, buffers: usize) -> State {
-    with(b"open", size);
-    with(b"", buffers);
-    after(b"", channels::open_channel(s, size, buffers))
+pub fn begin_write(rt: &impl Print, s: State, c: usize, memory: &mut [u8]) -> io::Result<State> {
+    let reply = writing::begin_write(s, ChannelNo(c), memory);
+    after(rt, format_args!("begin write {c}"), reply)
 }
 
-pub fn begin_write(s: State, c: usize, memory: &mut [u8]) -> State {
-    with(b"begin write", c);
-    after(b"", writing::begin_write(s, ChannelNo(c), memory))
+pub fn piece(
+    rt: &impl Print,
+    s: State,
+    c: usize,
+    offset: usize,
+    text: &[u8],
+    memory: &mut [u8],
+) -> io::Result<State> {
+    let reply = writing::piece(s, ChannelNo(c), offset, text, memory);
+    let bytes = Bytes(text);
+    after(rt, format_args!("piece {c} at {offset} of{bytes}"), reply)
 }
 
-pub fn piece(s: State, c: usize, offset: usize, text: &[u8], memory: &mut [u8]) -> State {
-    with(b"piece", c);
-    with(b" at", offset);
-    write(b" of");
-    bytes(text);
-    after(b"", writing::piece(s, ChannelNo(c), offset, text, memory))
+pub fn put(rt: &impl Print, s: State, c: usize, memory: &[u8]) -> io::Result<State> {
+    let reply = writing::put(s, ChannelNo(c), memory);
+    after(rt, format_args!("put {c}"), reply)
 }
 
-pub fn put(s: State, c: usize, memory: &[u8]) -> State {
-    with(b"put", c);
-    after(b"", writing::put(s, ChannelNo(c), memory))
-}
-
-pub fn begin_reading(s: State, c: usize, memory: &[u8]) -> State {
-    with(b"begin reading", c);
-    after(b"", reading::begin_reading(s, ChannelNo(c), memory))
+pub fn begin_reading(rt: &impl Print, s: State, c: usize, memory: &[u8]) -> io::Result<State> {
+    let reply = reading::begin_reading(s, ChannelNo(c), memory);
+    after(rt, format_args!("begin reading {c}"), reply)
 }
 
 // Prints what was shown, and the answer beside it.
-fn shown(refused: bool, n: i64, text: &[u8]) {
-    write(b": ");
-    if refused {
-        write(b"refused ");
-    }
-    test_lines::signed(n);
-    write(b", shows");
-    bytes(text);
-    write(b"\n");
+fn shown(rt: &impl Print, call: impl fmt::Display + Drop, back: HandedBack) -> io::Result<()> {
+    println!(rt; "{call}: {}, shows{}", Said(back.answer), Bytes(back.slice))
 }
 
-pub fn showing(s: State, c: usize, memory: &[u8]) {
-    let mut refused = true;
-    let mut n: i64 = 1;
-    let text = reading::showing(s, ChannelNo(c), memory, &mut refused, &mut n);
-    with(b"showing", c);
-    shown(refused, n, text);
+pub fn showing(rt: &impl Print, s: State, c: usize, memory: &[u8]) -> io::Result<()> {
+    let back = reading::showing(s, ChannelNo(c), memory);
+    shown(rt, format_args!("showing {c}"), back)
 }
 
-pub fn screen<'a>(s: State, c: usize, memory: &'a [u8], standby: &'a [u8]) {
-    let mut refused = true;
-    let mut n: i64 = 1;
-    let text = reading::screen(s, ChannelNo(c), memory, standby, &mut refused, &mut n);
-    with(b"screen", c);
-    shown(refused, n, text);
+pub fn screen<'a>(
+    rt: &impl Print,
+    s: State,
+    c: usize,
+    memory: &'a [u8],
+    standby: &'a [u8],
+) -> io::Result<()> {
+    let back = reading::screen(s, ChannelNo(c), memory, standby);
+    shown(rt, format_args!("screen {c}"), back)
 }
 
-pub fn close(s: State, c: usize, memory: &[u8]) -> State {
-    with(b"close", c);
-    after(b"", reading::close(s, ChannelNo(c), memory))
+pub fn close(rt: &impl Print, s: State, c: usize, memory: &[u8]) -> io::Result<State> {
+    let reply = reading::close(s, ChannelNo(c), memory);
+    after(rt, format_args!("close {c}"), reply)
 }
 
 // A whole message.
-pub fn message(before: State, c: usize, text: &[u8], memory: &mut [u8]) -> State {
+pub fn message(
+    rt: &impl Print,
+    before: State,
+    c: usize,
+    text: &[u8],
+    memory: &mut [u8],
+) -> io::Result<State> {
     let mut s = before;
-    s = begin_write(s, c, memory);
-    s = piece(s, c, 0, text, memory);
-    put(s, c, memory)
+    s = begin_write(rt, s, c, memory)?;
+    s = piece(rt, s, c, 0, text, memory)?;
+    put(rt, s, c, memory)
 }
 
 // A reading from its beginning to its close.
-pub fn look(before: State, c: usize, memory: &[u8]) -> State {
-    let mut s = before;
-    s = begin_reading(s, c, memory);
-    showing(s, c, memory);
-    close(s, c, memory)
+pub fn look(rt: &impl Print, before: State, c: usize, memory: &[u8]) -> io::Result<State> {
+    let s = begin_reading(rt, before, c, memory)?;
+    showing(rt, s, c, memory)?;
+    close(rt, s, c, memory)
 }
 
 // Both calls that show, with a stand-by text of 42 and 43.
-pub fn shows(s: State, c: usize, memory: &[u8]) {
+pub fn shows(rt: &impl Print, s: State, c: usize, memory: &[u8]) -> io::Result<()> {
     let standby = [42u8, 43];
-    showing(s, c, memory);
-    screen(s, c, memory, &standby);
+    showing(rt, s, c, memory)?;
+    screen(rt, s, c, memory, &standby)
 }
 
 // A reading from its beginning to its close, with both.
-fn read(before: State, c: usize, memory: &[u8]) -> State {
-    let mut s = before;
-    s = begin_reading(s, c, memory);
-    shows(s, c, memory);
-    close(s, c, memory)
+fn read(rt: &impl Print, before: State, c: usize, memory: &[u8]) -> io::Result<State> {
+    let s = begin_reading(rt, before, c, memory)?;
+    shows(rt, s, c, memory)?;
+    close(rt, s, c, memory)
 }
 
 // Every call that is lent a memory.
-pub fn every(s: State, c: usize, memory: &mut [u8]) -> State {
-    let t = message(s, c, &[1, 2], memory);
-    read(t, c, memory)
+pub fn every(rt: &impl Print, s: State, c: usize, memory: &mut [u8]) -> io::Result<State> {
+    let t = message(rt, s, c, &[1, 2], memory)?;
+    read(rt, t, c, memory)
 }

@@ -4,18 +4,27 @@
 mod scene;
 mod steps;
 
-fn main() {
-    test_lines::title(
-        b"A and B each begin, write and put a message. Before each step and behind the last, two readers are shown what they hold.",
-    );
-    test_lines::title(
-        b"A line: whose steps come, the point where reader 1 opens, and for each point where reader 2 opens, what both are shown:",
-    );
-    test_lines::title(
-        b"0 is the message before, A and B are theirs, - is nothing, and ! would be a message that is not whole.",
-    );
-    test_lines::title(b"three buffers");
-    scene::merges(3, 0);
-    test_lines::title(b"two buffers, and in front what became of the steps: x was refused");
-    scene::merges(2, 6);
+use std::io;
+use test_lines::title;
+
+fn main(rt: HostRuntime) -> io::Result<()> {
+    title(
+        &rt,
+        "A and B each begin, write and put a message. Before each step and behind the last, two readers are shown what they hold.",
+    )?;
+    title(
+        &rt,
+        "A line: whose steps come, the point where reader 1 opens, and for each point where reader 2 opens, what both are shown:",
+    )?;
+    title(
+        &rt,
+        "0 is the message before, A and B are theirs, - is nothing, and ! would be a message that is not whole.",
+    )?;
+    title(&rt, "three buffers")?;
+    scene::merges(&rt, 3, 0)?;
+    title(
+        &rt,
+        "two buffers, and in front what became of the steps: x was refused",
+    )?;
+    scene::merges(&rt, 2, 6)
 }

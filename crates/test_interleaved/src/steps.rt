@@ -1,116 +1,128 @@
 // One step of a task: main activates it, it makes its call and sleeps, and main runs again. Its session stays open.
-use kernel::{Answer, ChannelNo, Reply, State, TaskNo};
+use kernel::{ChannelNo, State, TaskNo};
+use reading::HandedBack;
 
-fn created(s: State, priority: u64) -> State {
-    let r = creation::create_nrt(s, priority);
-    r.state
+const CHANNEL: ChannelNo = ChannelNo(0);
+
+// A kernel's state and its message memory.
+#[derive(Drop)]
+pub struct Controller {
+    state: State,
+    memory: [u8; State::MEMORY_SIZE],
 }
 
-// The first message is put, and tasks 1 and 2, the writers, and 3 and 4, the readers, are asleep.
-pub fn start(buffers: usize, memory: &mut [u8]) -> State {
-    let mut s = State::fresh();
-    s = created(s, 4);
-    s = created(s, 3);
-    s = created(s, 2);
-    s = created(s, 1);
-    let open = channels::open_channel(s, 9, buffers);
-    let begun = writing::begin_write(open.state, ChannelNo(0), memory);
-    let written = writing::piece(begun.state, ChannelNo(0), 0, b"the first", memory);
-    let put = writing::put(written.state, ChannelNo(0), memory);
-    put.state
-}
-
-fn activated(s: State, t: usize) -> State {
-    let r = tasks::activate(s, TaskNo(t));
-    r.state
-}
-
-fn asleep(s: State) -> State {
-    let r = tasks::sleep(s);
-    r.state
-}
-
-// The call that writer t makes as its step n.
-fn call(s: State, t: usize, n: usize, memory: &mut [u8]) -> Reply {
-    if n == 0 {
-        return writing::begin_write(s, ChannelNo(0), memory);
+impl Controller {
+    // The first message is put, and tasks 1 and 2, the writers, and 3 and 4, the readers, are asleep.
+    pub fn new(buffers: usize) -> Controller {
+        let mut memory = [0u8; State::MEMORY_SIZE];
+        let mut s = State::fresh();
+        for priority in (1..5).rev() {
+            s = creation::create_nrt(s, priority).state;
+        }
+        let open = channels::open_channel(s, 9, buffers);
+        let begun = writing::begin_write(open.state, CHANNEL, &mut memory);
+        let written = writing::piece(begun.state, CHANNEL, 0, b"the first", &mut memory);
+        let state = writing::put(written.state, CHANNEL, &memory).state;
+        Controller { state, memory }
     }
-    if n == 2 {
-        return writing::put(s, ChannelNo(0), memory);
-    }
-    if t == 1 {
-        return writing::piece(s, ChannelNo(0), 0, b"A's words", memory);
-    }
-    writing::piece(s, ChannelNo(0), 0, b"B's words", memory)
-}
 
-// . where the call took effect, x where it was refused.
-fn mark(answer: Answer) -> u8 {
-    match answer {
-        Answer::Done(_) => b'.',
-        Answer::Refused(_) => b'x',
+    fn activate(&mut self, task: TaskNo) {
+        self.state = tasks::activate(self.state, task).state;
+    }
+
+    fn sleep(&mut self) {
+        self.state = tasks::sleep(self.state).state;
     }
 }
 
-// Notes a mark, where there is room for it.
-fn note(marks: &mut [u8], at: usize, x: u8) {
-    if at < marks.len() {
-        marks[at] = x;
-    }
+// The steps of a writer.
+#[derive(Clone, Copy)]
+enum Step {
+    Begin,
+    Write,
+    Put,
 }
 
-// Writer t makes its step n, which is noted at that point.
-pub fn writes(
-    before: State,
-    t: usize,
-    n: usize,
-    point: usize,
-    memory: &mut [u8],
-    marks: &mut [u8],
-) -> State {
-    let mut s = before;
-    s = activated(s, t);
-    let r = call(s, t, n, memory);
-    let answer = r.answer;
-    note(marks, point, mark(answer));
-    asleep(r.state)
+// A writer: its task, its message, and which of its steps is the next.
+#[derive(Clone, Copy)]
+pub struct Writer {
+    task: TaskNo,
+    text: &'static [u8],
+    next: Step,
+}
+
+impl Writer {
+    pub fn new(task: TaskNo, text: &'static [u8]) -> Writer {
+        Writer {
+            task,
+            text,
+            next: Step::Begin,
+        }
+    }
+
+    // Makes its next step, and says what became of it: . where the call took effect, x where it was refused.
+    pub fn step(&mut self, controller: &mut Controller) -> char {
+        controller.activate(self.task);
+        let s = controller.state;
+        let (reply, next) = match self.next {
+            Step::Begin => (
+                writing::begin_write(s, CHANNEL, &mut controller.memory),
+                Step::Write,
+            ),
+            Step::Write => (
+                writing::piece(s, CHANNEL, 0, self.text, &mut controller.memory),
+                Step::Put,
+            ),
+            Step::Put => (writing::put(s, CHANNEL, &controller.memory), Step::Begin),
+        };
+        controller.state = reply.state;
+        controller.sleep();
+        self.next = next;
+        match reply.answer {
+            Ok(_) => '.',
+            Err(_) => 'x',
+        }
+    }
 }
 
 // The message that is shown: 0, A or B. A refusal, with nothing shown, is -. Anything else is !.
-fn letter(refused: bool, shown: &[u8]) -> u8 {
-    if refused {
-        if shown.len() == 0 {
-            return b'-';
+fn letter(back: HandedBack) -> char {
+    match (back.answer, back.slice) {
+        (Err(_), []) => '-',
+        (Ok(_), b"the first") => '0',
+        (Ok(_), b"A's words") => 'A',
+        (Ok(_), b"B's words") => 'B',
+        _ => '!',
+    }
+}
+
+// A reader, and the point where it opens.
+#[derive(Clone, Copy)]
+pub struct Reader {
+    pub task: TaskNo,
+    pub opens: usize,
+}
+
+impl Reader {
+    // It begins to read.
+    fn open(self, controller: &mut Controller) {
+        controller.activate(self.task);
+        controller.state = reading::begin_reading(
+            controller.state,
+            CHANNEL,
+            &controller.memory,
+        ).state;
+        controller.sleep();
+    }
+
+    // It opens if this is the point, and is shown what it holds.
+    pub fn look(self, controller: &mut Controller, point: usize) -> char {
+        if point == self.opens {
+            self.open(controller);
         }
-        return b'!';
+        controller.activate(self.task);
+        let letter = letter(reading::showing(controller.state, CHANNEL, &controller.memory));
+        controller.sleep();
+        letter
     }
-    if check::same(shown, b"the first") {
-        return b'0';
-    }
-    if check::same(shown, b"A's words") {
-        return b'A';
-    }
-    if check::same(shown, b"B's words") {
-        return b'B';
-    }
-    b'!'
-}
-
-// Reader t is shown what it holds, which is noted at that point.
-pub fn looks(before: State, t: usize, point: usize, memory: &[u8], marks: &mut [u8]) -> State {
-    let mut s = before;
-    s = activated(s, t);
-    let mut refused = true;
-    let mut n: i64 = 0;
-    let shown = reading::showing(s, ChannelNo(0), memory, &mut refused, &mut n);
-    note(marks, point, letter(refused, shown));
-    asleep(s)
-}
-
-// Reader t begins to read.
-pub fn opens(before: State, t: usize, memory: &[u8]) -> State {
-    let mut s = before;
-    s = activated(s, t);
-    let r = reading::begin_reading(s, ChannelNo(0), memory);
-    asleep(r.state)
 }

@@ -5,110 +5,90 @@ ghost use Rattle.std.specs.Prelude.{◌<◌};
 ghost use Rattle.test_lines.specs.Check.{prime};
 
 use kernel::{Answer, Reply, State};
+use std::{fmt, io};
 
-// The descriptor of the standard output.
-const STDOUT: i32 = 1;
-
-pub fn write(text: &[u8]) {
-    io::write_all(STDOUT, text);
+pub fn title(rt: &impl Print, text: &str) -> io::Result<()> {
+    println!(rt; "-- {text}")
 }
 
-pub fn title(text: &[u8]) {
-    write(b"-- ");
-    write(text);
-    write(b"\n");
-}
+// An answer as it is printed.
+#[derive(Clone, Copy)]
+pub struct Said(pub Answer);
 
-pub fn number(n: u64) {
-    io::print_decimal(STDOUT, n);
-}
-
-pub fn signed(n: i64) {
-    let mut digits = [0u8; text::LONGEST_NUMBER];
-    let k = text::number(&mut digits, 0, n);
-    write(&digits[..k]);
-}
-
-fn answer(a: Answer) {
-    match a {
-        Answer::Done(n) => signed(n),
-        Answer::Refused(n) => {
-            write(b"refused ");
-            signed(n);
+impl fmt::Display for Said {
+    fn fmt<W: fmt::Write>(&self, f: &mut fmt::Formatter<W>) -> fmt::Result {
+        match self.0 {
+            Ok(n) => write!(f, "{n}"),
+            Err(refusal) => write!(f, "refused {}", refusal.number()),
         }
     }
 }
 
 // Prints what a call gave, and goes on with its state.
-pub fn after(call: &[u8], r: Reply) -> State {
-    write(call);
-    write(b": ");
-    let a = r.answer;
-    answer(a);
-    let s = r.state;
-    let w = s.words;
-    write(b", task ");
-    number(r.running.0 as u64);
-    write(b", clock ");
-    number(words::clock(&w) as u64);
-    write(b"\n");
-    s
+pub fn after(rt: &impl Print, call: impl fmt::Display + Drop, reply: Reply) -> io::Result<State> {
+    let said = Said(reply.answer);
+    let task = reply.running.0;
+    let clock = words::clock(&reply.state.words);
+    println!(rt; "{call}: {said}, task {task}, clock {clock}")?;
+    Ok(reply.state)
 }
 
 // n ticks, of which the last is printed.
-pub fn ticked(s: State, n: usize) -> State {
-    let mut t = s;
-    let mut left = n;
-    while left > 1 {
-        let r = ticks::tick(t);
-        t = r.state;
-        left -= 1;
+pub fn ticked(rt: &impl Print, before: State, n: usize) -> io::Result<State> {
+    let mut s = before;
+    for _ in 1..n {
+        s = ticks::tick(s).state;
     }
-    after(b"tick", ticks::tick(t))
+    after(rt, "tick", ticks::tick(s))
 }
 
 // n tasks of NRT priority 9, of which the last is printed.
-pub fn crowd(s: State, n: usize) -> State {
-    let mut t = s;
-    let mut left = n;
-    while left > 1 {
-        let r = creation::create_nrt(t, 9);
-        t = r.state;
-        left -= 1;
+pub fn crowd(rt: &impl Print, before: State, n: usize) -> io::Result<State> {
+    let mut s = before;
+    for _ in 1..n {
+        s = creation::create_nrt(s, 9).state;
     }
-    after(b"nrt 9", creation::create_nrt(t, 9))
+    after(rt, "nrt 9", creation::create_nrt(s, 9))
 }
 
 // ---- check numbers, by which two programs are seen to have come to the same without printing it all
 
-// One number more.
-pub fn folded(check: u64, n: u32) -> u64
-    requires { check < prime }
-    ensures { result < prime }
-{
-    (check * 31 + n as u64) % 4294967291
+const PRIME: u64 = 4294967291;
+
+#[derive(Clone, Copy)]
+pub struct CheckNumber {
+    value: u64,
+    ghost below: { value < prime },
+}
+
+impl CheckNumber {
+    pub fn new() -> CheckNumber {
+        CheckNumber { value: 0 }
+    }
+
+    // One number more.
+    pub fn with(self, n: u32) -> CheckNumber {
+        CheckNumber {
+            value: (self.value * 31 + n as u64) % PRIME,
+        }
+    }
+
+    // One answer more.
+    pub fn with_answer(self, answer: Answer) -> CheckNumber {
+        self.with(raised(text::number_of(answer)))
+    }
+}
+
+impl fmt::Display for CheckNumber {
+    fn fmt<W: fmt::Write>(&self, f: &mut fmt::Formatter<W>) -> fmt::Result {
+        write!(f, "{}", self.value)
+    }
 }
 
 // Answers go down to -15: 100 above them are numbers from 0 on.
 fn raised(n: i64) -> u32 {
-    if n < 0 {
-        let below = (-1 - n) as u64;
-        if below < 100 {
-            return 99 - below as u32;
-        }
-        return 0;
-    }
-    let above = n as u64;
-    if above < 1000000 {
-        return above as u32 + 100;
-    }
-    0
-}
-
-// The number that is folded for an answer.
-pub fn of_answer(a: Answer) -> u32 {
-    match a {
-        Answer::Done(n) => raised(n),
-        Answer::Refused(n) => raised(n),
+    match n {
+        -100..1000000 => (n + 100) as u32,
+        _ => 0,
     }
 }

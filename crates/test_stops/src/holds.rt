@@ -2,66 +2,67 @@
 ghost use Rattle.std.specs.Prelude.{◌<◌};
 ghost use Rattle.kernel.specs.Sizes.{task_count};
 
-use kernel::{State, Stop};
-use test_lines::write;
+use kernel::{Refusal, State, Stop};
+use std::{fmt, io};
 
-fn number(name: &[u8], n: u64) {
-    write(name);
-    test_lines::number(n);
-}
+// A link's word as the link that it stands for.
+#[derive(Clone, Copy)]
+struct Link(u32);
 
-fn link(name: &[u8], n: u32) {
-    if n == State::NONE {
-        write(name);
-        write(b"-1");
-        return;
+impl fmt::Display for Link {
+    fn fmt<W: fmt::Write>(&self, f: &mut fmt::Formatter<W>) -> fmt::Result {
+        match self.0 {
+            State::NONE => write!(f, "-1"),
+            task => write!(f, "{task}"),
+        }
     }
-    number(name, n as u64);
 }
 
 fn reason(stop: Stop) -> i64 {
     match stop {
         Stop::Going => 0,
-        Stop::Overrun => State::TIME_OVERFLOW,
-        Stop::Lifetime => State::TIME_EXPIRED,
+        Stop::Overrun => Refusal::TimeOverflow.number(),
+        Stop::Lifetime => Refusal::TimeExpired.number(),
     }
 }
 
-fn numbers(w: &[u32; State::WORDS]) {
-    number(b"clock ", words::clock(w) as u64);
-    write(b", stop ");
-    test_lines::signed(reason(words::stop(w)));
-    number(b", running ", words::running(w) as u64);
-    number(b", share ", words::total(w) as u64);
-    write(b"\n");
+fn numbers(rt: &impl Print, w: &[u32; State::WORDS]) -> io::Result<()> {
+    println!(rt;
+        "clock {}, stop {}, running {}, share {}",
+        words::clock(w),
+        reason(words::stop(w)),
+        words::running(w),
+        words::total(w)
+    )
 }
 
-fn firsts(w: &[u32; State::WORDS]) {
-    link(b"first ready ", words::head(w, State::READY_QUEUE));
-    link(b", idle ", words::head(w, State::IDLE_QUEUE));
-    link(b", zombie ", words::head(w, State::ZOMBIE_QUEUE));
-    write(b"\n");
+fn firsts(rt: &impl Print, w: &[u32; State::WORDS]) -> io::Result<()> {
+    println!(rt;
+        "first ready {}, idle {}, zombie {}",
+        Link(words::head(w, State::READY_QUEUE)),
+        Link(words::head(w, State::IDLE_QUEUE)),
+        Link(words::head(w, State::ZOMBIE_QUEUE))
+    )
 }
 
-fn task(w: &[u32; State::WORDS], x: usize)
+fn task(rt: &impl Print, w: &[u32; State::WORDS], x: usize) -> io::Result<()>
     requires { x < task_count }
 {
-    let status = words::status(w, x);
-    number(b"task ", x as u64);
-    number(b": status ", kernel::status_number(status) as u64);
-    number(b", deadline ", words::deadline(w, x) as u64);
-    link(b", next ", words::next(w, x));
-    link(b", previous ", words::previous(w, x));
-    write(b"\n");
+    println!(rt;
+        "task {x}: status {}, deadline {}, next {}, previous {}",
+        kernel::status_number(words::status(w, x)),
+        words::deadline(w, x),
+        Link(words::next(w, x)),
+        Link(words::previous(w, x))
+    )
 }
 
-pub fn all(s: State) {
+pub fn all(rt: &impl Print, s: State) -> io::Result<()> {
     let w = s.words;
-    numbers(&w);
-    firsts(&w);
-    task(&w, 0);
-    task(&w, 1);
-    task(&w, 2);
-    task(&w, 3);
-    task(&w, 4);
+    numbers(rt, &w)?;
+    firsts(rt, &w)?;
+    for x in 0..5 {
+        task(rt, &w, x)?;
+    }
+    Ok(())
 }

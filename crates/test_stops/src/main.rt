@@ -5,62 +5,67 @@
 mod holds;
 
 use kernel::{State, TaskNo};
-use test_lines::{after, ticked};
+use std::io;
+use test_lines::{after, ticked, title};
 
 // Task 1 becomes IDLE and task 2 a ZOMBIE, both with deadline clock + 5.
-fn put_aside(before: State) -> State {
+fn put_aside(rt: &impl Print, before: State) -> io::Result<State> {
     let mut s = before;
-    s = after(b"hard 5 1", creation::create_hard(s, 5, 1));
-    s = after(b"activate 1", tasks::activate(s, TaskNo(1)));
-    s = after(b"cycle", tasks::cycle(s));
-    s = after(b"hard 5 1", creation::create_hard(s, 5, 1));
-    s = after(b"activate 2", tasks::activate(s, TaskNo(2)));
-    after(b"end", endings::end(s))
+    s = after(rt, "hard 5 1", creation::create_hard(s, 5, 1))?;
+    s = after(rt, "activate 1", tasks::activate(s, TaskNo(1)))?;
+    s = after(rt, "cycle", tasks::cycle(s))?;
+    s = after(rt, "hard 5 1", creation::create_hard(s, 5, 1))?;
+    s = after(rt, "activate 2", tasks::activate(s, TaskNo(2)))?;
+    after(rt, "end", endings::end(s))
 }
 
 // Task 4 runs, with deadline clock + 4; task 3 and the main task are ready.
-fn running(before: State) -> State {
+fn running(rt: &impl Print, before: State) -> io::Result<State> {
     let mut s = before;
-    s = after(b"nrt 7", creation::create_nrt(s, 7));
-    s = after(b"activate 3", tasks::activate(s, TaskNo(3)));
-    s = after(b"hard 4 1", creation::create_hard(s, 4, 1));
-    after(b"activate 4", tasks::activate(s, TaskNo(4)))
+    s = after(rt, "nrt 7", creation::create_nrt(s, 7))?;
+    s = after(rt, "activate 3", tasks::activate(s, TaskNo(3)))?;
+    s = after(rt, "hard 4 1", creation::create_hard(s, 4, 1))?;
+    after(rt, "activate 4", tasks::activate(s, TaskNo(4)))
 }
 
 // Four ticks after this clock. At the next one the IDLE task and the zombie are due, and the running task is late.
-fn four_ticks_after(clock: u32) -> State {
+fn four_ticks_after(rt: &impl Print, clock: u32) -> io::Result<State> {
     let mut s = State::fresh();
     s.words[State::CLOCK_AT] = clock;
-    s = put_aside(s);
-    s = running(s);
-    ticked(s, 4)
+    s = put_aside(rt, s)?;
+    s = running(rt, s)?;
+    ticked(rt, s, 4)
 }
 
 // The next tick, and what the state holds before and after it.
-fn next_tick(s: State) -> State {
-    holds::all(s);
-    let t = after(b"tick", ticks::tick(s));
-    holds::all(t);
-    t
+fn next_tick(rt: &impl Print, s: State) -> io::Result<State> {
+    holds::all(rt, s)?;
+    let t = after(rt, "tick", ticks::tick(s))?;
+    holds::all(rt, t)?;
+    Ok(t)
 }
 
 // The running task cycles first, so that it is not late.
-fn goes_on() {
-    let s = four_ticks_after(0);
-    next_tick(after(b"cycle", tasks::cycle(s)));
+fn goes_on(rt: &impl Print) -> io::Result<()> {
+    let mut s = four_ticks_after(rt, 0)?;
+    s = after(rt, "cycle", tasks::cycle(s))?;
+    next_tick(rt, s)?;
+    Ok(())
 }
 
 // It runs on. The next call is refused with the stop's number.
-fn stops(clock: u32) {
-    let s = four_ticks_after(clock);
-    after(b"clock", questions::clock(next_tick(s)));
+fn stops(rt: &impl Print, clock: u32) -> io::Result<()> {
+    let mut s = four_ticks_after(rt, clock)?;
+    s = next_tick(rt, s)?;
+    after(rt, "clock", questions::clock(s))?;
+    Ok(())
 }
 
-fn main() {
-    test_lines::title(b"a tick that goes on");
-    goes_on();
-    test_lines::title(b"a tick that stops by overrun");
-    stops(0);
-    test_lines::title(b"a tick that stops at lifetime");
-    stops(State::LIFETIME - 5);
+fn main(rt: HostRuntime) -> io::Result<()> {
+    title(&rt, "a tick that goes on")?;
+    goes_on(&rt)?;
+    title(&rt, "a tick that stops by overrun")?;
+    stops(&rt, 0)?;
+    title(&rt, "a tick that stops at lifetime")?;
+    stops(&rt, State::LIFETIME - 5)
 }

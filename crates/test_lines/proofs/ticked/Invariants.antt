@@ -1,5 +1,0 @@
--- The ticks are counted down. Assumes nothing.
-use Rattle.test_lines.proofs.ticked.Given as goal
-
-abbrev pub decreases-loop-left : goal.decreases-loop-left
-decreases-loop-left l = l.left
