@@ -3,8 +3,7 @@ use mathlib.Core.Path.{◌≡◌}
 use mathlib.Core.Bool.{true}
 use mathlib.Core.List.{List}
 use Prim.Native.Nat.{ℕ}
-use Rattle.kernel.specs.declared.Answer.{Answer}
-use Rattle.kernel.specs.Answer.{said}
+use Rattle.kernel.specs.Answer.{Answer, said}
 use Rattle.kernel.specs.Calls.{Verb, verb}
 use Rattle.kernel.specs.Layout.{word, clock_at, running_at}
 use Rattle.kernel.specs.Seen.{seen}

@@ -8,8 +8,7 @@ use native.Mathlib.Omega.{arith}
 use lib.ListN.{length, drop}
 use lib.Seq.{drop-drop}
 use borrow.Author.Tests.{le-leb, lt-ltb}
-use Rattle.kernel.specs.declared.Answer.{Answer}
-use Rattle.kernel.specs.Answer.{same_number, said}
+use Rattle.kernel.specs.Answer.{Answer, same_number, said}
 use Rattle.kernel.specs.Kernel.{Kernel}
 use Rattle.kernel.specs.Seen.{seen}
 use Rattle.pieces.specs.Program.{next_index}

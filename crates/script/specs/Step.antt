@@ -1,8 +1,7 @@
 -- The promise of one step of a script, on any words, sound or not. Assumes nothing.
 use Rattle.std.specs.Prelude.{◌≡◌, List, ℕ, ◌+◌, ◌≤◌}
 use Rattle.std.proofs.Math.Option.{Option, none, some}
-use Rattle.kernel.specs.declared.Answer.{Answer}
-use Rattle.kernel.specs.Answer.{said}
+use Rattle.kernel.specs.Answer.{Answer, said}
 use Rattle.kernel.specs.Calls.{Call}
 use Rattle.kernel.specs.Layout.{word, clock_at, running_at}
 use Rattle.kernel.specs.Promise.{reply, Unlent}
