@@ -6,34 +6,37 @@
 mod packed;
 mod runs;
 
-use std::io::{self, Read};
+use packed::Packed;
 use verbs::Verb;
 
-const LONGEST_SCRIPT: u64 = 60000;
+// Standard input.
+const STDIN: i32 = 0;
+
+const LONGEST_SCRIPT: usize = 60000;
 
 const KNOWN: u64 = 1000;
 
 const TESTED: u64 = 100;
 
 // Makes the calls so often, and prints how many there are, and the check number of answers and running tasks over one run.
-fn show(rt: &impl Print, order: char, calls: &[Verb], tested: bool, times: u64) -> io::Result<()> {
+fn show(rt: &impl Print, order: char, calls: &[Verb], tested: bool, times: u64) {
     let check = runs::made(calls, tested, times);
-    println!(rt;
+    let _ = println!(rt;
         "{order}: {} calls, {times} times, check {check}",
         calls.len()
-    )
+    );
 }
 
-fn main(rt: HostRuntime) -> io::Result<()> {
-    let mut input = Vec::new(rt.alloc());
-    rt.stdin().take(1 + LONGEST_SCRIPT).read_to_end(&mut input)?;
-    let [order, script @ ..] = input.as_slice() else {
-        return Ok(());
+fn main(rt: HostRuntime) {
+    let mut input = [0u8; 1 + LONGEST_SCRIPT];
+    let n = io::read_full(STDIN, &mut input);
+    let [order, script @ ..] = &input[..n] else {
+        return;
     };
-    let calls = packed::pack(rt.alloc(), script)?;
+    let packed = Packed::of(script);
     match order {
-        b'k' => show(&rt, 'k', &calls, false, KNOWN),
-        b't' => show(&rt, 't', &calls, true, TESTED),
-        _ => Ok(()),
+        b'k' => show(&rt, 'k', packed.calls(), false, KNOWN),
+        b't' => show(&rt, 't', packed.calls(), true, TESTED),
+        _ => {}
     }
 }

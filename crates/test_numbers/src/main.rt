@@ -63,13 +63,18 @@ fn no_such_number(rt: &impl Print) -> io::Result<()> {
     Ok(())
 }
 
-fn main(rt: HostRuntime) -> io::Result<()> {
-    test_lines::title(&rt, "not sound")?;
-    unsound(&rt)?;
-    test_lines::title(&rt, "stopped")?;
-    overrun(&rt)?;
-    lifetime(&rt)?;
-    test_lines::title(&rt, "questions")?;
-    periods(&rt)?;
-    no_such_number(&rt)
+fn run(rt: &impl Print) -> io::Result<()> {
+    test_lines::title(rt, "not sound")?;
+    unsound(rt)?;
+    test_lines::title(rt, "stopped")?;
+    overrun(rt)?;
+    lifetime(rt)?;
+    test_lines::title(rt, "questions")?;
+    periods(rt)?;
+    no_such_number(rt)
+}
+
+// A line that cannot be printed ends the program, as its end does.
+fn main(rt: HostRuntime) {
+    let _ = run(&rt);
 }

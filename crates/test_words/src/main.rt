@@ -32,13 +32,18 @@ fn show(rt: &impl Print, n: u64, s: State) -> io::Result<()> {
     )
 }
 
-fn main(rt: HostRuntime) -> io::Result<()> {
+fn run(rt: &HostRuntime) -> io::Result<()> {
     let mut input = rt.stdin();
     for n in 0..1000 {
         let Some(s) = read(&mut input) else {
             break;
         };
-        show(&rt, n, s)?;
+        show(rt, n, s)?;
     }
     Ok(())
+}
+
+// A line that cannot be printed ends the program, as its end does.
+fn main(rt: HostRuntime) {
+    let _ = run(&rt);
 }
