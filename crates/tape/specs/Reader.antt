@@ -99,6 +99,7 @@ tests b =
 abbrev pub Reading : Type 0
 Reading = Result Accepted Fault
 
+-- It is accepted with this number and so many records.
 abbrev pub accepts : ℕ → ℕ → Reading
 accepts number n = Ok (record { number = number; count = n })
 
