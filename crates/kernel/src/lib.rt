@@ -46,6 +46,7 @@ pub struct Task {
     pub previous: i64,
 }
 
+// A mark beside the count, and no Option: the model has the count of an unused one too (`Counted`).
 #[derive(Clone, Copy)]
 pub struct Semaphore {
     pub used: bool,
@@ -86,24 +87,24 @@ pub struct State {
     pub words: [u32; State::WORDS],
 }
 
-// Why a call is refused, with the document's number.
+// Why a call is refused. The numbers are the state's.
 #[derive(Clone, Copy, Debug, PartialEq, Eq)]
 pub enum Refusal {
-    TimeOverflow = -1,
-    TimeExpired = -2,
-    NoGuarantee = -3,
-    NoTask = -4,
-    NoSemaphore = -5,
-    NoSuchNumber = -6,
-    OutsideSizes = -7,
-    NotAllowed = -8,
-    WrongStatus = -9,
-    NoRoom = -10,
-    NotSound = -11,
-    WrongMemory = -12,
-    NothingPut = -13,
-    WrongSession = -14,
-    TooSoon = -15,
+    TimeOverflow = State::TIME_OVERFLOW as isize,
+    TimeExpired = State::TIME_EXPIRED as isize,
+    NoGuarantee = State::NO_GUARANTEE as isize,
+    NoTask = State::NO_TASK as isize,
+    NoSemaphore = State::NO_SEMAPHORE as isize,
+    NoSuchNumber = State::NO_SUCH_NUMBER as isize,
+    OutsideSizes = State::OUTSIDE_SIZES as isize,
+    NotAllowed = State::NOT_ALLOWED as isize,
+    WrongStatus = State::WRONG_STATUS as isize,
+    NoRoom = State::NO_ROOM as isize,
+    NotSound = State::NOT_SOUND as isize,
+    WrongMemory = State::WRONG_MEMORY as isize,
+    NothingPut = State::NOTHING_PUT as isize,
+    WrongSession = State::WRONG_SESSION as isize,
+    TooSoon = State::TOO_SOON as isize,
 }
 
 impl Refusal {
@@ -218,6 +219,39 @@ impl Channel {
     pub const LATEST: usize = 2;
 
     pub const WORDS: usize = 3;
+}
+
+// Refusal numbers.
+impl State {
+    pub const TIME_OVERFLOW: i64 = -1;
+
+    pub const TIME_EXPIRED: i64 = -2;
+
+    pub const NO_GUARANTEE: i64 = -3;
+
+    pub const NO_TASK: i64 = -4;
+
+    pub const NO_SEMAPHORE: i64 = -5;
+
+    pub const NO_SUCH_NUMBER: i64 = -6;
+
+    pub const OUTSIDE_SIZES: i64 = -7;
+
+    pub const NOT_ALLOWED: i64 = -8;
+
+    pub const WRONG_STATUS: i64 = -9;
+
+    pub const NO_ROOM: i64 = -10;
+
+    pub const NOT_SOUND: i64 = -11;
+
+    pub const WRONG_MEMORY: i64 = -12;
+
+    pub const NOTHING_PUT: i64 = -13;
+
+    pub const WRONG_SESSION: i64 = -14;
+
+    pub const TOO_SOON: i64 = -15;
 }
 
 // -1 in so many words: the first at `from`, and each `step` behind the one before.

@@ -135,7 +135,7 @@ pub fn unsound(memory: usize) -> Refusal
     Refusal::NotSound
 }
 
-// Such a state comes back as it was.
+// Such a state comes back as it was. A call that is lent a memory makes the test itself: of what a closure leaves in a memory that it holds, nothing would be known.
 pub fn unsound_lent(w: [u32; State::WORDS], memory: usize) -> Reply
     ensures { result ≡ reply w (Err (Tested.unsound memory)) }
 {

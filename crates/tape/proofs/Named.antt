@@ -1,4 +1,4 @@
--- The reader's tests: it accepted_by where they all hold, and else names the first that fails. Assumes nothing.
+-- The reader's tests: it accepts where they all hold, and else names the first that fails. Assumes nothing.
 use mathlib.Core.Path.{◌≡◌, ap}
 use mathlib.Core.Bool.{true, and-eq-true_iff}
 use mathlib.Core.List.{List, [], ◌∷◌}
