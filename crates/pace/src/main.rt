@@ -19,15 +19,15 @@ const KNOWN: u64 = 1000;
 const TESTED: u64 = 100;
 
 // Makes the calls so often, and prints how many there are, and the check number of answers and running tasks over one run.
-fn show(rt: &impl Print, order: char, calls: &[Verb], tested: bool, times: u64) {
+fn show(order: char, calls: &[Verb], tested: bool, times: u64) {
     let check = runs::made(calls, tested, times);
-    let _ = println!(rt;
+    test_lines::line(format_args!(
         "{order}: {} calls, {times} times, check {check}",
         calls.len()
-    );
+    ));
 }
 
-fn main(rt: HostRuntime) {
+fn main() {
     let mut input = [0u8; 1 + LONGEST_SCRIPT];
     let n = io::read_full(STDIN, &mut input);
     let [order, script @ ..] = &input[..n] else {
@@ -35,8 +35,8 @@ fn main(rt: HostRuntime) {
     };
     let packed = Packed::of(script);
     match order {
-        b'k' => show(&rt, 'k', packed.calls(), false, KNOWN),
-        b't' => show(&rt, 't', packed.calls(), true, TESTED),
+        b'k' => show('k', packed.calls(), false, KNOWN),
+        b't' => show('t', packed.calls(), true, TESTED),
         _ => {}
     }
 }

@@ -5,23 +5,16 @@ mod lives;
 mod slack;
 mod waiting;
 
-use std::io;
-
-fn run(rt: &impl Print) -> io::Result<()> {
-    test_lines::title(rt, "slack before, at and after the deadline")?;
-    slack::asleep(rt)?;
-    test_lines::title(rt, "tasks")?;
-    lives::equals(rt)?;
-    lives::overrun(rt)?;
-    lives::cycles(rt)?;
-    lives::zombies(rt)?;
-    test_lines::title(rt, "semaphores")?;
-    waiting::signals(rt)?;
-    waiting::killed(rt)?;
-    waiting::all(rt)
-}
-
-// A line that cannot be printed ends the program, as its end does.
-fn main(rt: HostRuntime) {
-    let _ = run(&rt);
+fn main() {
+    test_lines::title("slack before, at and after the deadline");
+    slack::asleep();
+    test_lines::title("tasks");
+    lives::equals();
+    lives::overrun();
+    lives::cycles();
+    lives::zombies();
+    test_lines::title("semaphores");
+    waiting::signals();
+    waiting::killed();
+    waiting::all();
 }

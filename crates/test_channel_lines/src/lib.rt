@@ -3,8 +3,8 @@
 
 use kernel::{ChannelNo, State};
 use reading::HandedBack;
-use std::{fmt, io};
-use test_lines::{Said, after};
+use std::fmt;
+use test_lines::{Said, after, line};
 
 // ---- bytes
 
@@ -29,116 +29,98 @@ impl fmt::Display for Bytes<'_> {
 }
 
 // What is in the memory.
-pub fn memory_shown(rt: &impl Print, memory: &[u8]) -> io::Result<()> {
-    println!(rt; "memory:{}", Bytes(memory))
+pub fn memory_shown(memory: &[u8]) {
+    line(format_args!("memory:{}", Bytes(memory)));
 }
 
-// What is in the memory, a line a channel.
-pub fn memory_by_channel(rt: &impl Print, memory: &[u8]) -> io::Result<()> {
-    for channel in memory.chunks(State::MEMORY_SIZE / State::CHANNELS) {
-        memory_shown(rt, channel)?;
+// What is in a whole memory, a line a channel.
+pub fn memory_by_channel(memory: &[u8]) {
+    if memory.len() == State::MEMORY_SIZE {
+        for channel in memory.chunks(State::MEMORY_SIZE / State::CHANNELS) {
+            memory_shown(channel);
+        }
     }
-    Ok(())
 }
 
 // ---- calls
 
-pub fn open(rt: &impl Print, s: State, size: usize, buffers: usize) -> io::Result<State> {
+pub fn open(s: State, size: usize, buffers: usize) -> State {
     let reply = channels::open_channel(s, size, buffers);
-    after(rt, format_args!("open {size} {buffers}"), reply)
+    after(format_args!("open {size} {buffers}"), reply)
 }
 
-pub fn begin_write(rt: &impl Print, s: State, c: usize, memory: &mut [u8]) -> io::Result<State> {
+pub fn begin_write(s: State, c: usize, memory: &mut [u8]) -> State {
     let reply = writing::begin_write(s, ChannelNo(c), memory);
-    after(rt, format_args!("begin write {c}"), reply)
+    after(format_args!("begin write {c}"), reply)
 }
 
-pub fn piece(
-    rt: &impl Print,
-    s: State,
-    c: usize,
-    offset: usize,
-    text: &[u8],
-    memory: &mut [u8],
-) -> io::Result<State> {
+pub fn piece(s: State, c: usize, offset: usize, text: &[u8], memory: &mut [u8]) -> State {
     let reply = writing::piece(s, ChannelNo(c), offset, text, memory);
     let bytes = Bytes(text);
-    after(rt, format_args!("piece {c} at {offset} of{bytes}"), reply)
+    after(format_args!("piece {c} at {offset} of{bytes}"), reply)
 }
 
-pub fn put(rt: &impl Print, s: State, c: usize, memory: &[u8]) -> io::Result<State> {
+pub fn put(s: State, c: usize, memory: &[u8]) -> State {
     let reply = writing::put(s, ChannelNo(c), memory);
-    after(rt, format_args!("put {c}"), reply)
+    after(format_args!("put {c}"), reply)
 }
 
-pub fn begin_reading(rt: &impl Print, s: State, c: usize, memory: &[u8]) -> io::Result<State> {
+pub fn begin_reading(s: State, c: usize, memory: &[u8]) -> State {
     let reply = reading::begin_reading(s, ChannelNo(c), memory);
-    after(rt, format_args!("begin reading {c}"), reply)
+    after(format_args!("begin reading {c}"), reply)
 }
 
 // Prints what was shown, and the answer beside it.
-fn shown(rt: &impl Print, call: impl fmt::Display + Drop, back: HandedBack) -> io::Result<()> {
-    println!(rt; "{call}: {}, shows{}", Said(back.answer), Bytes(back.slice))
+fn shown(call: impl fmt::Display + Drop, back: HandedBack) {
+    line(format_args!("{call}: {}, shows{}", Said(back.answer), Bytes(back.slice)));
 }
 
-pub fn showing(rt: &impl Print, s: State, c: usize, memory: &[u8]) -> io::Result<()> {
+pub fn showing(s: State, c: usize, memory: &[u8]) {
     let back = reading::showing(s, ChannelNo(c), memory);
-    shown(rt, format_args!("showing {c}"), back)
+    shown(format_args!("showing {c}"), back);
 }
 
-pub fn screen<'a>(
-    rt: &impl Print,
-    s: State,
-    c: usize,
-    memory: &'a [u8],
-    standby: &'a [u8],
-) -> io::Result<()> {
+pub fn screen<'a>(s: State, c: usize, memory: &'a [u8], standby: &'a [u8]) {
     let back = reading::screen(s, ChannelNo(c), memory, standby);
-    shown(rt, format_args!("screen {c}"), back)
+    shown(format_args!("screen {c}"), back);
 }
 
-pub fn close(rt: &impl Print, s: State, c: usize, memory: &[u8]) -> io::Result<State> {
+pub fn close(s: State, c: usize, memory: &[u8]) -> State {
     let reply = reading::close(s, ChannelNo(c), memory);
-    after(rt, format_args!("close {c}"), reply)
+    after(format_args!("close {c}"), reply)
 }
 
 // A whole message.
-pub fn message(
-    rt: &impl Print,
-    before: State,
-    c: usize,
-    text: &[u8],
-    memory: &mut [u8],
-) -> io::Result<State> {
+pub fn message(before: State, c: usize, text: &[u8], memory: &mut [u8]) -> State {
     let mut s = before;
-    s = begin_write(rt, s, c, memory)?;
-    s = piece(rt, s, c, 0, text, memory)?;
-    put(rt, s, c, memory)
+    s = begin_write(s, c, memory);
+    s = piece(s, c, 0, text, memory);
+    put(s, c, memory)
 }
 
 // A reading from its beginning to its close.
-pub fn look(rt: &impl Print, before: State, c: usize, memory: &[u8]) -> io::Result<State> {
-    let s = begin_reading(rt, before, c, memory)?;
-    showing(rt, s, c, memory)?;
-    close(rt, s, c, memory)
+pub fn look(before: State, c: usize, memory: &[u8]) -> State {
+    let s = begin_reading(before, c, memory);
+    showing(s, c, memory);
+    close(s, c, memory)
 }
 
 // Both calls that show, with a stand-by text of 42 and 43.
-pub fn shows(rt: &impl Print, s: State, c: usize, memory: &[u8]) -> io::Result<()> {
+pub fn shows(s: State, c: usize, memory: &[u8]) {
     let standby = [42u8, 43];
-    showing(rt, s, c, memory)?;
-    screen(rt, s, c, memory, &standby)
+    showing(s, c, memory);
+    screen(s, c, memory, &standby);
 }
 
 // A reading from its beginning to its close, with both.
-fn read(rt: &impl Print, before: State, c: usize, memory: &[u8]) -> io::Result<State> {
-    let s = begin_reading(rt, before, c, memory)?;
-    shows(rt, s, c, memory)?;
-    close(rt, s, c, memory)
+fn read(before: State, c: usize, memory: &[u8]) -> State {
+    let s = begin_reading(before, c, memory);
+    shows(s, c, memory);
+    close(s, c, memory)
 }
 
 // Every call that is lent a memory.
-pub fn every(rt: &impl Print, s: State, c: usize, memory: &mut [u8]) -> io::Result<State> {
-    let t = message(rt, s, c, &[1, 2], memory)?;
-    read(rt, t, c, memory)
+pub fn every(s: State, c: usize, memory: &mut [u8]) -> State {
+    let t = message(s, c, &[1, 2], memory);
+    read(t, c, memory)
 }

@@ -4,27 +4,20 @@
 mod order;
 mod refused;
 
-use std::io;
-
-fn run(rt: &impl Print) -> io::Result<()> {
-    test_lines::title(rt, "every refusal number")?;
-    refused::wrong_memory(rt)?;
-    refused::unsound(rt)?;
-    refused::overrun(rt)?;
-    refused::lifetime(rt)?;
-    refused::no_such_number(rt)?;
-    refused::wrong_session(rt)?;
-    refused::outside_sizes(rt)?;
-    refused::no_room(rt)?;
-    refused::nothing_put(rt)?;
-    test_lines::title(rt, "the first row that applies answers")?;
-    order::memories(rt)?;
-    order::states(rt)?;
-    order::numbers(rt)?;
-    order::sessions(rt)
-}
-
-// A line that cannot be printed ends the program, as its end does.
-fn main(rt: HostRuntime) {
-    let _ = run(&rt);
+fn main() {
+    test_lines::title("every refusal number");
+    refused::wrong_memory();
+    refused::unsound();
+    refused::overrun();
+    refused::lifetime();
+    refused::no_such_number();
+    refused::wrong_session();
+    refused::outside_sizes();
+    refused::no_room();
+    refused::nothing_put();
+    test_lines::title("the first row that applies answers");
+    order::memories();
+    order::states();
+    order::numbers();
+    order::sessions();
 }

@@ -3,7 +3,8 @@ ghost use Rattle.std.specs.Prelude.{◌<◌};
 
 use super::steps::{Controller, Reader, Writer};
 use kernel::TaskNo;
-use std::{fmt, io};
+use std::fmt;
+use test_lines::part;
 
 const STEPS: usize = 6;
 
@@ -87,38 +88,31 @@ fn play(buffers: usize, merge: Merge, opens1: usize, opens2: usize) -> Notes {
 }
 
 // One play: what became of the steps, where some may be refused, and what both readers are shown.
-fn cell(
-    rt: &impl Print,
-    buffers: usize,
-    merge: Merge,
-    opens1: usize,
-    opens2: usize,
-) -> io::Result<()> {
+fn cell(buffers: usize, merge: Merge, opens1: usize, opens2: usize) {
     let notes = play(buffers, merge, opens1, opens2);
-    print!(rt; " |")?;
+    part(" |");
     if buffers < 3 {
-        print!(rt; " {}", notes.done)?;
+        part(format_args!(" {}", notes.done));
     }
-    print!(rt; " {} {}", notes.shown1, notes.shown2)
+    part(format_args!(" {} {}", notes.shown1, notes.shown2));
 }
 
 // A line: reader 1 opens at one point, and reader 2 at each.
-fn line(rt: &impl Print, buffers: usize, merge: Merge, opens1: usize) -> io::Result<()> {
-    print!(rt; "{merge} {opens1}")?;
+fn line(buffers: usize, merge: Merge, opens1: usize) {
+    part(format_args!("{merge} {opens1}"));
     for opens2 in 0..POINTS {
-        cell(rt, buffers, merge, opens1, opens2)?;
+        cell(buffers, merge, opens1, opens2);
     }
-    println!(rt)
+    part("\n");
 }
 
 // Every merge, with reader 1 opening at that point and at each later one.
-pub fn merges(rt: &impl Print, buffers: usize, first: usize) -> io::Result<()> {
+pub fn merges(buffers: usize, first: usize) {
     for bits in 0..1u32 << STEPS {
         if bits.count_ones() == 3 {
             for opens1 in first..POINTS {
-                line(rt, buffers, Merge(bits), opens1)?;
+                line(buffers, Merge(bits), opens1);
             }
         }
     }
-    Ok(())
 }

@@ -1,15 +1,14 @@
 // Four channels with the largest sizes: no buffer disturbs another, from the first byte of the memory to the last.
 use kernel::{ChannelNo, State, TaskNo};
-use std::io;
 use test_channel_lines::{look, memory_by_channel, open, piece, put};
 use test_lines::{after, crowd};
 
-fn four(rt: &impl Print) -> io::Result<State> {
+fn four() -> State {
     let mut s = State::fresh();
-    s = open(rt, s, 512, 8)?;
-    s = open(rt, s, 512, 8)?;
-    s = open(rt, s, 512, 8)?;
-    open(rt, s, 512, 8)
+    s = open(s, 512, 8);
+    s = open(s, 512, 8);
+    s = open(s, 512, 8);
+    open(s, 512, 8)
 }
 
 fn begins(s: State, c: usize, memory: &mut [u8]) -> State {
@@ -79,36 +78,36 @@ fn first_bytes(before: State, memory: &mut [u8]) -> State {
 }
 
 // The first message of the memory and the last one are shown.
-fn both_ends(rt: &impl Print, before: State, memory: &mut [u8]) -> io::Result<State> {
+fn both_ends(before: State, memory: &mut [u8]) -> State {
     let mut s = before;
-    s = after(rt, "activate 1", tasks::activate(s, TaskNo(1)))?;
-    s = put(rt, s, 0, memory)?;
-    s = look(rt, s, 0, memory)?;
-    s = after(rt, "sleep", tasks::sleep(s))?;
-    s = after(rt, "activate 8", tasks::activate(s, TaskNo(8)))?;
-    s = put(rt, s, 3, memory)?;
-    s = look(rt, s, 3, memory)?;
-    after(rt, "sleep", tasks::sleep(s))
+    s = after("activate 1", tasks::activate(s, TaskNo(1)));
+    s = put(s, 0, memory);
+    s = look(s, 0, memory);
+    s = after("sleep", tasks::sleep(s));
+    s = after("activate 8", tasks::activate(s, TaskNo(8)));
+    s = put(s, 3, memory);
+    s = look(s, 3, memory);
+    after("sleep", tasks::sleep(s))
 }
 
 // One message is written from its first byte to its last.
-fn whole(rt: &impl Print, before: State, memory: &mut [u8]) -> io::Result<State> {
+fn whole(before: State, memory: &mut [u8]) -> State {
     let mut s = before;
-    s = after(rt, "activate 4", tasks::activate(s, TaskNo(4)))?;
-    s = piece(rt, s, 1, 0, &[55; 512], memory)?;
-    s = put(rt, s, 1, memory)?;
-    look(rt, s, 1, memory)
+    s = after("activate 4", tasks::activate(s, TaskNo(4)));
+    s = piece(s, 1, 0, &[55; 512], memory);
+    s = put(s, 1, memory);
+    look(s, 1, memory)
 }
 
-pub fn filled(rt: &impl Print) -> io::Result<()> {
+pub fn filled() {
     let mut memory = [0u8; 16384];
-    let mut s = four(rt)?;
-    s = crowd(rt, s, 8)?;
+    let mut s = four();
+    s = crowd(s, 8);
     s = last_bytes(s, &mut memory);
-    memory_by_channel(rt, &memory)?;
+    memory_by_channel(&memory);
     s = first_bytes(s, &mut memory);
-    memory_by_channel(rt, &memory)?;
-    s = both_ends(rt, s, &mut memory)?;
-    whole(rt, s, &mut memory)?;
-    memory_by_channel(rt, &memory)
+    memory_by_channel(&memory);
+    s = both_ends(s, &mut memory);
+    whole(s, &mut memory);
+    memory_by_channel(&memory);
 }

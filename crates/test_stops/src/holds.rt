@@ -3,7 +3,8 @@ ghost use Rattle.std.specs.Prelude.{◌<◌};
 ghost use Rattle.kernel.specs.Sizes.{task_count};
 
 use kernel::{Refusal, State, Stop};
-use std::{fmt, io};
+use std::fmt;
+use test_lines::line;
 
 // A link's word as the link that it stands for.
 #[derive(Clone, Copy)]
@@ -26,43 +27,42 @@ fn reason(stop: Stop) -> i64 {
     }
 }
 
-fn numbers(rt: &impl Print, w: &[u32; State::WORDS]) -> io::Result<()> {
-    println!(rt;
+fn numbers(w: &[u32; State::WORDS]) {
+    line(format_args!(
         "clock {}, stop {}, running {}, share {}",
         words::clock(w),
         reason(words::stop(w)),
         words::running(w),
         words::total(w)
-    )
+    ));
 }
 
-fn firsts(rt: &impl Print, w: &[u32; State::WORDS]) -> io::Result<()> {
-    println!(rt;
+fn firsts(w: &[u32; State::WORDS]) {
+    line(format_args!(
         "first ready {}, idle {}, zombie {}",
         Link(words::head(w, State::READY_QUEUE)),
         Link(words::head(w, State::IDLE_QUEUE)),
         Link(words::head(w, State::ZOMBIE_QUEUE))
-    )
+    ));
 }
 
-fn task(rt: &impl Print, w: &[u32; State::WORDS], x: usize) -> io::Result<()>
+fn task(w: &[u32; State::WORDS], x: usize)
     requires { x < task_count }
 {
-    println!(rt;
+    line(format_args!(
         "task {x}: status {}, deadline {}, next {}, previous {}",
         kernel::status_number(words::status(w, x)),
         words::deadline(w, x),
         Link(words::next(w, x)),
         Link(words::previous(w, x))
-    )
+    ));
 }
 
-pub fn all(rt: &impl Print, s: State) -> io::Result<()> {
+pub fn all(s: State) {
     let w = s.words;
-    numbers(rt, &w)?;
-    firsts(rt, &w)?;
+    numbers(&w);
+    firsts(&w);
     for x in 0..5 {
-        task(rt, &w, x)?;
+        task(&w, x);
     }
-    Ok(())
 }

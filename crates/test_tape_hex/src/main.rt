@@ -5,9 +5,9 @@ ghost use Rattle.std.specs.Prelude.{◌+◌, ◌≤◌};
 ghost use Rattle.tape.specs.Block.{block_size};
 
 use kernel::{State, TaskNo};
-use std::{fmt, io};
+use std::fmt;
 use test_channel_lines::Bytes;
-use test_lines::title;
+use test_lines::{line, title};
 use verbs::Verb;
 
 type Block = [u8; tape::BLOCK];
@@ -33,39 +33,39 @@ impl fmt::Display for Hex<'_> {
 }
 
 // Where a field starts, its name and its bytes.
-fn field(rt: &impl Print, block: &Block, at: usize, size: usize, name: &str) -> io::Result<()>
+fn field(block: &Block, at: usize, size: usize, name: &str)
     requires { at + size ≤ block_size }
 {
-    println!(rt; "{at} {name}:{}", Hex(&block[at..at + size]))
+    line(format_args!("{at} {name}:{}", Hex(&block[at..at + size])));
 }
 
 // The record of a call, 16 bytes.
-fn record(rt: &impl Print, block: &Block, at: usize, line: &str) -> io::Result<()>
+fn record(block: &Block, at: usize, line: &str)
     requires { at + 16 ≤ block_size }
 {
-    title(rt, line)?;
-    field(rt, block, at, 1, "verb")?;
-    field(rt, block, at + 1, 4, "first argument")?;
-    field(rt, block, at + 5, 4, "second argument")?;
-    field(rt, block, at + 9, 4, "answer")?;
-    field(rt, block, at + 13, 1, "running task")?;
-    field(rt, block, at + 14, 2, "clock")
+    title(line);
+    field(block, at, 1, "verb");
+    field(block, at + 1, 4, "first argument");
+    field(block, at + 5, 4, "second argument");
+    field(block, at + 9, 4, "answer");
+    field(block, at + 13, 1, "running task");
+    field(block, at + 14, 2, "clock");
 }
 
-fn shown(rt: &impl Print, block: &Block) -> io::Result<()> {
-    field(rt, block, 0, 4, "block number")?;
-    field(rt, block, 4, 2, "record count")?;
-    record(rt, block, 6, "hard 4 1")?;
-    record(rt, block, 22, "activate 1")?;
-    record(rt, block, 38, "tick")?;
-    record(rt, block, 54, "kill 9999999999")?;
-    title(rt, "behind the records")?;
+fn shown(block: &Block) {
+    field(block, 0, 4, "block number");
+    field(block, 4, 2, "record count");
+    record(block, 6, "hard 4 1");
+    record(block, 22, "activate 1");
+    record(block, 38, "tick");
+    record(block, 54, "kill 9999999999");
+    title("behind the records");
     // In decimal, and n bytes x in a row as x*n.
-    println!(rt; "70 unused:{}", Bytes(&block[70..510]))?;
-    field(rt, block, 510, 2, "check")
+    line(format_args!("70 unused:{}", Bytes(&block[70..510])));
+    field(block, 510, 2, "check");
 }
 
-fn run(rt: &impl Print) -> io::Result<()> {
+fn main() {
     let mut w = State::fresh().words;
     let mut block = [0u8; tape::BLOCK];
     call(&mut w, &mut block, 0, Verb::Hard(4, 1));
@@ -73,10 +73,5 @@ fn run(rt: &impl Print) -> io::Result<()> {
     call(&mut w, &mut block, 2, Verb::Tick);
     call(&mut w, &mut block, 3, Verb::Kill(TaskNo(9999999999)));
     tape::close(&mut block, 0, 4);
-    shown(rt, &block)
-}
-
-// A line that cannot be printed ends the program, as its end does.
-fn main(rt: HostRuntime) {
-    let _ = run(&rt);
+    shown(&block);
 }

@@ -5,45 +5,44 @@
 mod flips;
 
 use kernel::State;
-use std::io::{self, Read};
+use test_lines::{line, part};
+
+// Standard input.
+const STDIN: i32 = 0;
 
 // The next state, if there is a whole one.
-fn read(input: &mut impl Read) -> Option<State> {
+fn read() -> Option<State> {
     let mut words = [0u32; State::WORDS];
     for word in &mut words {
         let mut bytes = [0u8; 4];
-        input.read_exact(&mut bytes).ok()?;
+        if io::read_full(STDIN, &mut bytes) < bytes.len() {
+            return None;
+        }
         *word = u32::from_be_bytes(bytes);
     }
     Some(State { words })
 }
 
 // What is said of state number n.
-fn show(rt: &impl Print, n: u64, s: State) -> io::Result<()> {
+fn show(n: u64, s: State) {
     let sound = if soundness::sound(&s.words) {
         "sound"
     } else {
         "not sound"
     };
+    part(format_args!("state {n}: {sound}"));
     let found = flips::beside(s);
-    println!(rt;
-        "state {n}: {sound}, one bit away {} sound, {} answered -11, the others {}",
+    line(format_args!(
+        ", one bit away {} sound, {} answered -11, the others {}",
         found.sound, found.refused, found.check
-    )
+    ));
 }
 
-fn run(rt: &HostRuntime) -> io::Result<()> {
-    let mut input = rt.stdin();
+fn main() {
     for n in 0..1000 {
-        let Some(s) = read(&mut input) else {
+        let Some(s) = read() else {
             break;
         };
-        show(rt, n, s)?;
+        show(n, s);
     }
-    Ok(())
-}
-
-// A line that cannot be printed ends the program, as its end does.
-fn main(rt: HostRuntime) {
-    let _ = run(&rt);
 }
