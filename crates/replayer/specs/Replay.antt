@@ -12,7 +12,7 @@ use Rattle.tape.specs.Reader.{Reading, records, reading}
 use Rattle.records.specs.Records.{outcome, asked}
 use Rattle.recorder.specs.Tape.{next}
 use Rattle.replayer.specs.declared.Course.{Course}
-use Rattle.replayer.specs.declared.Course.TheVariants.{GoesOn, Stopped, Differed}
+use Rattle.replayer.specs.declared.Course.TheVariants.{GoesOn, GoesOnDiffered, Stopped, Differed}
 use Rattle.replayer.specs.declared.Replayed.{Replayed}
 
 -- ---- what a replay finds
@@ -59,11 +59,13 @@ pub record Replaying : Type 0 where
 -- Whether it goes on, and whether an answer differed.
 abbrev pub going : Course → Bool
 going GoesOn = true
+going GoesOnDiffered = true
 going Stopped = false
 going Differed = false
 
 abbrev pub found : Course → Bool
 found GoesOn = false
+found GoesOnDiffered = true
 found Stopped = false
 found Differed = true
 

@@ -8,23 +8,39 @@ ghost use Rattle.pieces.specs.Reads.{Finished};
 ghost use Rattle.tape.specs.Block.{block_size, most_records, first_at};
 ghost use Rattle.tape.specs.Reader.{records_of};
 ghost use Rattle.replayer.specs.Replay as Replay;
-ghost use Rattle.replayer.specs.Replay.{replayer, replaying, Kept, Keeps};
+ghost use Rattle.replayer.specs.Replay.{going, found, replayer, replaying, Kept, Keeps};
 
 use kernel::State;
 
-// A replay goes on, or is stopped by a block or by an answer that differed.
+// A replay goes on, or is stopped by a block or by an answer that differed. A caller may also hand in one that goes on though an answer differed.
 #[derive(Clone, Copy, Debug, PartialEq, Eq)]
 pub enum Course {
     GoesOn,
+    GoesOnDiffered,
     Stopped,
     Differed,
 }
 
-// Where a replay stands: the number of the block that is awaited, how many answers were the same, and whether it goes on.
+impl Course {
+    fn goes_on(self) -> bool
+        ensures { result ≡ going self }
+    {
+        matches!(self, Course::GoesOn | Course::GoesOnDiffered)
+    }
+
+    fn differed(self) -> bool
+        ensures { result ≡ found self }
+    {
+        matches!(self, Course::Differed | Course::GoesOnDiffered)
+    }
+}
+
+// Where a replay stands: how many answers were the same, the number of the block that is awaited, and whether it goes on. It is copied for every byte
+// that is read: the index stands first, so that a course is not followed by seven bytes of filling, which would be copied by two loads that overlap.
 #[derive(Clone, Copy)]
 pub struct Replayed {
-    pub number: u32,
     pub index: u64,
+    pub number: u32,
     pub course: Course,
 }
 
@@ -71,9 +87,9 @@ pub fn block(w: &mut [u32; State::WORDS], block: &[u8], at: Replayed) -> Replaye
     ensures sound { Sound w.new }
     ensures result_after { replaying w.new result ≡ (Replay.turn block.now (replaying w.old at)).state }
 {
-    let Course::GoesOn = at.course else {
+    if !at.course.goes_on() {
         return at;
-    };
+    }
     match tape::read(block) {
         Err(_) => stopped(at),
         Ok(accepted) => {
@@ -90,11 +106,9 @@ pub fn finish(at: Replayed, paper: &mut [u8], printed: usize) -> usize
     requires { printed + longest ≤ length paper.old }
     ensures { (w : List ℕ) → Finished replayer Kept Keeps (record { words = w; at = at }) paper.old printed paper.new result }
 {
-    match at.course {
-        Course::Differed => {
-            let n = text::decimal(paper, printed, at.index);
-            text::put(paper, n, b"\n")
-        }
-        Course::GoesOn | Course::Stopped => text::put(paper, printed, b"none\n"),
+    if at.course.differed() {
+        let n = text::decimal(paper, printed, at.index);
+        return text::put(paper, n, b"\n");
     }
+    text::put(paper, printed, b"none\n")
 }

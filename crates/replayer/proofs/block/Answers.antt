@@ -3,24 +3,17 @@ use Rattle.std.proofs.Common.{◌≡◌, true, false, refl, sym, ◌∙◌, List
 use borrow.Author.Tests.{eq-eqb, ne_eqb}
 use Rattle.tape.specs.Reader.{records, reading}
 use Rattle.tape.proofs.Named.{passes}
-use Rattle.replayer.specs.declared.Course.{Course}
-use Rattle.replayer.specs.declared.Course.TheVariants.{GoesOn, Stopped, Differed}
 use Rattle.replayer.specs.Replay.{in_turn, going, Replaying, run, turn, replaying}
 use Rattle.replayer.proofs.block.Goals as goal
 
-ended : (a : Course) → (a ≡ GoesOn → ⊥) → going a ≡ false
-ended GoesOn ne = absurd (ne refl)
-ended Stopped ne = refl
-ended Differed ne = refl
-
-pub returns-in_default-clause-result_after : goal.returns-in_default-clause-result_after
+pub returns-then-not-goes_on-clause-result_after : goal.returns-then-not-goes_on-clause-result_after
 unfolding turn
-returns-in_default-clause-result_after c = rw (ended c.args.at.course c.in_default.not-GoesOn)
+returns-then-not-goes_on-clause-result_after c = rw (← c.goes_on.ensures, c.if-not-goes_on.true)
 
 pub returns-then-accepted-at-clause-result_after : goal.returns-then-accepted-at-clause-result_after
 unfolding turn
 returns-then-accepted-at-clause-result_after c =
-    rw (c.in-GoesOn.is, ← c.in-Ok.ensures, ne_eqb c.in-Ok.accepted.number c.args.at.number c.if-accepted-at.true, c.stopped-then-accepted-at.ensures)
+    rw (← c.goes_on.ensures, c.if-not-goes_on.false, ← c.in-Ok.ensures, ne_eqb c.in-Ok.accepted.number c.args.at.number c.if-accepted-at.true, c.stopped-then-accepted-at.ensures)
 
 pub run-requires-clause-whole_block : goal.run-requires-clause-whole_block
 run-requires-clause-whole_block c = let p = passes _ _ _ (sym c.in-Ok.ensures) in omega arith
@@ -30,9 +23,9 @@ run-requires-clause-count_most c = let p = passes _ _ _ (sym c.in-Ok.ensures) in
 
 pub returns-in-Err-clause-result_after : goal.returns-in-Err-clause-result_after
 unfolding turn
-returns-in-Err-clause-result_after c = rw (c.in-GoesOn.is, ← c.in-Err.ensures, c.stopped.ensures)
+returns-in-Err-clause-result_after c = rw (← c.goes_on.ensures, c.if-not-goes_on.false, ← c.in-Err.ensures, c.stopped.ensures)
 
-in_turn_runs : (b : List ℕ) (s : Replaying) → s.at.course ≡ GoesOn → in_turn s.at.number (reading b) ≡ true → run (records b) s ≡ (turn b s).state
+in_turn_runs : (b : List ℕ) (s : Replaying) → going s.at.course ≡ true → in_turn s.at.number (reading b) ≡ true → run (records b) s ≡ (turn b s).state
 unfolding turn
 in_turn_runs b s g t = rw (g, t)
 
@@ -40,4 +33,4 @@ pub returns-else-accepted-at-clause-result_after : goal.returns-else-accepted-at
 returns-else-accepted-at-clause-result_after c =
     let p = passes _ _ _ (sym c.in-Ok.ensures) in
     let its_turn : in_turn c.args.at.number (reading c.args.block.now) ≡ true = rw (← c.in-Ok.ensures) (eq-eqb c.in-Ok.accepted.number c.args.at.number c.if-accepted-at.false) in
-    rw (← p.its_count) at c.run.ensures.result_after ∙ in_turn_runs c.args.block.now (replaying c.args.w.now c.args.at) c.in-GoesOn.is its_turn
+    rw (← p.its_count) at c.run.ensures.result_after ∙ in_turn_runs c.args.block.now (replaying c.args.w.now c.args.at) (sym c.goes_on.ensures ∙ c.if-not-goes_on.false) its_turn

@@ -10,11 +10,11 @@ decimal-n-requires c = omega (arith, short c.args.at.index 19 (omega arith) (ome
 pub put-requires : goal.put-requires
 put-requires c = omega (arith, short c.args.at.index 19 (omega arith) (omega arith))
 
-pub returns-in-Differed : goal.returns-in-Differed
-returns-in-Differed c = λ w.
+pub returns-then-differed : goal.returns-then-differed
+returns-then-differed c = λ w.
     record {
       text = _;
       put = follows c.decimal-n.ensures c.put.ensures;
       short = simp length-append (omega (arith, short c.args.at.index 19 (omega arith) (omega arith)));
-      prints = λ s e. rw (← e, c.in-Differed.is);
+      prints = λ s e. rw (← e, ← c.differed.ensures, c.if-differed.true);
     }
