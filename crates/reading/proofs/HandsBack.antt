@@ -2,8 +2,10 @@
 use mathlib.Core.Path.{◌≡◌, refl, ap, subst}
 use mathlib.Core.List.{List}
 use mathlib.Core.Option.{Option, some}
-use Prim.Native.Nat.{ℕ}
+use Prim.Native.Nat.{ℕ, ◌+◌}
+use native.Mathlib.Omega.{arith}
 use lib.ListN.{length}
+use lib.Seq.{take-length}
 use Rattle.std.specs.Prelude.{Ok, Err}
 use Rattle.kernel.specs.Answer.{Answer}
 use Rattle.kernel.specs.Sizes.{memory_size}
@@ -11,7 +13,7 @@ use Rattle.kernel.specs.Channels.{own}
 use Rattle.kernel.specs.Calls.{Call, Shown, Effect, effect, showed, showing, on_channel}
 use Rattle.kernel.specs.Seen.{seen}
 use Rattle.kernel.specs.Sound.{Sound}
-use Rattle.kernel.specs.Slices.{Slice}
+use Rattle.kernel.specs.Slices.{Slice, part_of}
 use Rattle.kernel.specs.Promise.{handed_back, Loan, reply, given, Known, ShowingKnown}
 use Rattle.kernel.proofs.Allowed.{Allowed}
 use Rattle.kernel.proofs.Messages.{reading_open}
@@ -22,6 +24,13 @@ use Rattle.channels.specs.Session.{Holds}
 use Rattle.channels.proofs.Holds.{holds}
 use Rattle.reading.specs.Message as Message
 use Rattle.reading.specs.Message.{message, by_verdict, answering}
+
+-- All bytes of a slice, in their place, are the slice.
+pub all_of : (x : Slice) → part_of x 0 (length x.bytes) ≡ x
+all_of x =
+    let here : 0 + x.place.1 ≡ x.place.1 = omega arith in
+    let same = take-length x.bytes in
+    λ i. record { place = (x.place.0, here i); bytes = same i }
 
 -- A call that shows the message on channel n, or hands back x instead.
 module _ {c : Call} {w : List ℕ} (l : Loan) (n : ℕ) (other : Shown) (x : Slice) (is : effect c (seen w) l.memory.bytes ≡ showed n other (seen w) l.memory.bytes)
