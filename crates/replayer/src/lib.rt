@@ -35,7 +35,7 @@ impl Course {
     }
 }
 
-// Where a replay stands: how many answers were the same, the number of the block that is awaited, and whether it goes on. It is copied for every byte
+// Where a replay stands: how many answers were the same, the number of the block that is awaited, and its course. It is copied for every byte
 // that is read: the index stands first, so that a course is not followed by seven bytes of filling, which would be copied by two loads that overlap.
 #[derive(Clone, Copy)]
 pub struct Replayed {

@@ -2,7 +2,8 @@
 #![tactic(auto)]
 
 ghost use Rattle.std.specs.Prelude.{◌≡◌, ◌<◌};
-ghost use Rattle.test_lines.specs.Check.{prime, folded};
+ghost use Rattle.test_lines.specs.Check.{prime};
+ghost use Rattle.test_lines.specs.Check as Check;
 
 use kernel::{Answer, Reply, State};
 use std::fmt::{self, Write};
@@ -14,6 +15,10 @@ const STDOUT: i32 = 1;
 
 const ROOM: usize = 1024;
 
+pub fn write(text: &[u8]) {
+    io::write_all(STDOUT, text);
+}
+
 // What is not written yet.
 #[derive(Drop)]
 struct Unwritten {
@@ -24,7 +29,7 @@ struct Unwritten {
 impl Unwritten {
     fn flush(&mut self) {
         if let Some(bytes) = self.bytes.get(..self.count) {
-            io::write_all(STDOUT, bytes);
+            write(bytes);
         }
         self.count = 0;
     }
@@ -109,6 +114,20 @@ pub fn crowd(before: State, n: usize) -> State {
 
 const PRIME: u64 = 4294967291;
 
+// One number more.
+pub fn folded(check: u64, n: u32) -> u64
+    requires { check < prime }
+    ensures below { result < prime }
+    ensures value { result ≡ Check.folded check n }
+{
+    (check * 31 + n as u64) % PRIME
+}
+
+// The number that is folded for an answer.
+pub fn of_answer(answer: Answer) -> u32 {
+    raised(text::number_of(answer))
+}
+
 #[derive(Clone, Copy, Debug, PartialEq, Eq, PartialOrd, Ord)]
 pub struct CheckNumber {
     value: u64,
@@ -124,16 +143,16 @@ impl CheckNumber {
 
     // One number more.
     pub fn with(self, n: u32) -> CheckNumber
-        ensures { result.value ≡ folded self.value n }
+        ensures { result.value ≡ Check.folded self.value n }
     {
         CheckNumber {
-            value: (self.value * 31 + n as u64) % PRIME,
+            value: folded(self.value, n),
         }
     }
 
     // One answer more.
     pub fn with_answer(self, answer: Answer) -> CheckNumber {
-        self.with(raised(text::number_of(answer)))
+        self.with(of_answer(answer))
     }
 }
 
