@@ -1,5 +1,5 @@
 -- A replay that has ended stays; a block that is refused or out of turn ends it, and any other is run. Assumes nothing.
-use Rattle.std.proofs.Common.{◌≡◌, true, false, refl, sym, ◌∙◌, List, ℕ, arith}
+use Rattle.std.proofs.Common.{◌≡◌, true, sym, ◌∙◌, List, ℕ, arith}
 use borrow.Author.Tests.{eq-eqb, ne_eqb}
 use Rattle.tape.specs.Reader.{records, reading}
 use Rattle.tape.proofs.Named.{passes}
